@@ -1,0 +1,25 @@
+-- What each case of an answer tells in 01's numbers. Assumes nothing.
+use Prim.Native.Nat.{ℕ}
+use Rattle.answers.specs.declared.Refusal.{Refusal}
+use Rattle.answers.specs.declared.Told.{Told}
+use Rattle.answers.specs.declared.Taken.{Taken}
+use Rattle.answers.specs.declared.Written.{Written}
+use Rattle.answers.specs.Numbers.{numberOf}
+
+-- a success: 0, and how many bytes were taken or written
+abbrev pub success : ℕ → Told
+success amount = record { number = 0; amount = amount }
+
+-- a refusal: its number, and no byte
+abbrev pub refusal : ℕ → Told
+refusal number = record { number = number; amount = 0 }
+
+-- what the answer of a call that takes bytes tells
+abbrev pub takenTells : Taken → Told
+takenTells (Taken.Took n) = success n
+takenTells (Taken.Refused why) = refusal (numberOf why)
+
+-- what the answer of a call that writes tells
+abbrev pub writtenTells : Written → Told
+writtenTells (Written.Wrote n) = success n
+writtenTells (Written.Refused why) = refusal (numberOf why)

@@ -1,0 +1,91 @@
+// What every call of the library answers: a success with its amount, or a refusal with 01's number.
+ghost use mathlib.Core.Path.{_≡_};
+ghost use Rattle.answers.specs.Numbers.{numberOf};
+ghost use Rattle.answers.specs.Tells.{refusal, takenTells, writtenTells};
+
+// Why a call is refused.
+pub enum Refusal {
+    // There are fewer than 16 bytes.
+    FewerThan16,
+    // There are 16 bytes or more, and fewer than the record's size.
+    FewerThanSize,
+    // The age is not among the twelve.
+    NotAnAge,
+    // The record is held back at the age.
+    HeldBack,
+    // The lent buffer is shorter than what is to be written.
+    ShortBuffer,
+    // A field that isn't read at the record's size isn't zero.
+    UnreadField,
+    // There are more than 65,536 bytes of input.
+    TooMuchInput,
+}
+
+// What an answer says in 01's numbers: 0 for a success, and the bytes taken or written; a refusal's number, and no byte.
+pub struct Told {
+    pub number: u32,
+    pub amount: usize,
+}
+
+// The answer of a call that takes bytes from the front of what it is given.
+pub enum Taken {
+    Took(usize),
+    Refused(Refusal),
+}
+
+// The answer of a call that writes into a lent buffer.
+pub enum Written {
+    Wrote(usize),
+    Refused(Refusal),
+}
+
+impl Refusal {
+    // The refusal's number in 01's table.
+    pub fn number(self) -> u32
+        ensures { λ r. ⌜ r ≡ numberOf self ⌝ }
+    {
+        match self {
+            Self::FewerThan16 => 1,
+            Self::FewerThanSize => 2,
+            Self::NotAnAge => 3,
+            Self::HeldBack => 4,
+            Self::ShortBuffer => 5,
+            Self::UnreadField => 6,
+            Self::TooMuchInput => 7,
+        }
+    }
+
+    // What a refused call tells.
+    pub fn told(self) -> Told
+        ensures { λ r. ⌜ r ≡ refusal (numberOf self) ⌝ }
+    {
+        Told {
+            number: self.number(),
+            amount: 0,
+        }
+    }
+}
+
+impl Taken {
+    // What the answer tells in 01's numbers.
+    pub fn told(self) -> Told
+        ensures { λ r. ⌜ r ≡ takenTells self ⌝ }
+    {
+        match self {
+            Self::Took(amount) => Told { number: 0, amount },
+            Self::Refused(why) => why.told(),
+        }
+    }
+}
+
+impl Written {
+    // What the answer tells in 01's numbers.
+    pub fn told(self) -> Told
+        ensures { λ r. ⌜ r ≡ writtenTells self ⌝ }
+    {
+        match self {
+            Self::Wrote(amount) => Told { number: 0, amount },
+            Self::Refused(why) => why.told(),
+        }
+    }
+}

@@ -1,0 +1,4 @@
+pub mod Digits
+pub mod OneOutcome
+pub mod Putting
+pub mod Writing

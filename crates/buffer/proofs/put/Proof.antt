@@ -1,0 +1,33 @@
+-- `put` meets its contract. The invariant: the first j bytes of word are put. Assumes nothing.
+use Prim.Native.Nat.{_-_, _≤_}
+use native.Mathlib.Numerals.{add-one}
+use native.Mathlib.Omega.{arith}
+use borrow.Author.Needs.{needs}
+use lib.ListN.{length, take}
+use mathlib.Core.Path.{_≡_}
+use Rattle.buffer.specs.Put.{Put}
+use Rattle.buffer.proofs.Putting.{put-nil, put-turn, put-all}
+use Rattle.buffer.proofs.put.Statement.{statement}
+use Rattle.buffer.proofs.put.Tie as tie
+
+abbrev Inv-loop : tie.InvT-loop
+Inv-loop out₀ at word o₀ j₀ out o j = (j ≤ length word) × (length out ≡ length out₀) × Put out₀ at (take j word) out o
+
+abbrev μ-loop : tie.MeasureT-loop
+μ-loop out₀ at word o₀ j₀ out o j = length word - j
+
+loop-again : tie.Need-loop-again Inv-loop μ-loop
+loop-again c =
+    let l = c .before .before .before .before .before .before .loop in
+    (omega arith, omega arith, rw add-one (put-turn _ (l .j) (omega arith) (l .inv .2) (c .before .before .put-byte .ensures)))
+
+pub put-spec : {M : Type 1} → statement M
+put-spec =
+    tie.close
+    (tie.spec
+    Inv-loop μ-loop
+    (λ c. (search needs, search needs, put-nil))
+    (λ c. omega arith) (λ c κs. search needs) (λ c. omega arith) (λ c. omega arith)
+    loop-again
+    (λ c. omega arith)
+    (λ c. put-all _ (c .before .loop .j) (omega arith) (c .before .loop .inv .2)))

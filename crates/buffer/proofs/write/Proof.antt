@@ -1,0 +1,13 @@
+-- `write` writes all of word, or refuses. Assumes nothing.
+use mathlib.Core.Path.{sym}
+use borrow.Author.Needs.{needs}
+use Rattle.buffer.proofs.Writing.{put-written, written-short}
+use Rattle.buffer.proofs.write.Statement.{statement}
+use Rattle.buffer.proofs.write.Tie as tie
+
+pub write-spec : {M : Type 1} → statement M
+write-spec =
+    tie.close
+    (tie.spec (λ c κs. tt) (λ c. search needs)
+    (λ c. put-written (search needs) (c .before .before .put .ensures))
+    (λ c. sym (written-short _ _ (search needs))))
