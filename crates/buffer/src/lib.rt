@@ -48,13 +48,20 @@ pub fn put_decimal(out: &mut [u8], at: usize, n: u64) -> usize
     }
 }
 
+// Puts a word and then n in decimal.
+pub fn put_label(out: &mut [u8], at: usize, front: &[u8], n: u64) -> usize
+    ensures { λ r. ⌜ Put (now (out .entry)) at (now (front .entry) ++ decimal n) (now (out .exit)) r ⌝ }
+{
+    let a = put(out, at, front);
+    put_decimal(out, a, n)
+}
+
 // Puts n in decimal between two words.
 pub fn put_between(out: &mut [u8], at: usize, front: &[u8], n: u64, back: &[u8]) -> usize
     ensures { λ r. ⌜ Put (now (out .entry)) at (now (front .entry) ++ decimal n ++ now (back .entry)) (now (out .exit)) r ⌝ }
 {
-    let a = put(out, at, front);
-    let b = put_decimal(out, a, n);
-    put(out, b, back)
+    let a = put_label(out, at, front, n);
+    put(out, a, back)
 }
 
 // Writes word to the front of out; where out is shorter, it is left as it is.
