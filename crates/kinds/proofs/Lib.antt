@@ -1,0 +1,4 @@
+pub mod OneOutcome
+pub mod Past
+pub mod Pick
+pub mod RoundTrip

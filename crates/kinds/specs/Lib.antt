@@ -1,0 +1,5 @@
+pub mod Flags
+pub mod Input
+pub mod Mode
+pub mod Pick
+pub mod Screen

@@ -1,0 +1,25 @@
+-- `write_words` puts the words together in a buffer of its own, which holds them, and writes them. Assumes nothing.
+use mathlib.Core.Path.{sym, _∙_}
+use native.Mathlib.Omega.{arith}
+use borrow.Author.Needs.{needs}
+use lib.Seq.{length-take-le}
+use Rattle.buffer.proofs.Putting.{put-most}
+use Rattle.buffer.proofs.Writing.{copied}
+use Rattle.words.proofs.Long.{words-long}
+use Rattle.words.proofs.write_words.Statement.{statement}
+use Rattle.words.proofs.write_words.Tie as tie
+
+returns : tie.Need-returns
+returns c =
+    let s = c .before .before .before .before .before .before .before .before .before in
+    c .before .before .write .ensures
+    ∙ copied _ (omega (arith, words-long (s .args .kind) _ (s .good .1 .0))) (c .before .before .before .before .before .before .put-words .ensures)
+
+pub write-words-spec : {M : Type 1} → statement M
+write-words-spec =
+    tie.close
+    (tie.spec
+    (λ c. search needs) (λ c κs. tt)
+    (λ c. put-most (c .before .before .put-words .ensures) (search needs) .1)
+    (λ c. sym (length-take-le _ _ (put-most (c .before .before .before .put-words .ensures) (search needs) .1)))
+    (λ c κs. tt) (λ c. search needs) returns)

@@ -1,0 +1,17 @@
+-- Each case puts its own words. Assumes nothing.
+use borrow.Author.Needs.{needs}
+use Rattle.buffer.proofs.Putting.{put-nil}
+use Rattle.words_input.proofs.put_keys_hidden.Statement.{statement}
+use Rattle.words_input.proofs.put_keys_hidden.Tie as tie
+
+pub put-keys-hidden-spec : {M : Type 1} → statement M
+put-keys-hidden-spec =
+    tie.close
+    (tie.spec
+    (λ c. search needs) (λ c. search needs) (λ c. search needs) (λ c κs. tt) (λ c. search needs) (λ c. search needs) (λ c κs. tt)
+    (λ c. search needs) (λ c. search needs) (λ c κs. tt) (λ c. rw (c .enum-told .given .1) put-nil) (λ c. search needs)
+    (λ c. rw (c .before .before .before .before .before .enum-told2 .given .1) (c .before .before .put .ensures))
+    (λ c. search needs)
+    (λ c. rw (c .before .before .before .before .before .enum-told3 .given .1) (c .before .before .put2 .ensures))
+    (λ c. search needs)
+    (λ c. rw (c .before .before .before .before .before .enum-told4 .given .1) (c .before .before .put3 .ensures)))

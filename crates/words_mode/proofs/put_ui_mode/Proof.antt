@@ -1,0 +1,28 @@
+-- Each case puts its own words. Assumes nothing.
+use borrow.Author.Needs.{needs}
+use Rattle.buffer.proofs.Putting.{put-nil}
+use Rattle.words_mode.proofs.put_ui_mode.Statement.{statement}
+use Rattle.words_mode.proofs.put_ui_mode.Tie as tie
+
+pub put-ui-mode-spec : {M : Type 1} → statement M
+put-ui-mode-spec =
+    tie.close
+    (tie.spec
+    (λ c. search needs) (λ c. search needs) (λ c. search needs) (λ c. search needs) (λ c κs. tt) (λ c. search needs)
+    (λ c. search needs) (λ c κs. tt) (λ c. search needs) (λ c. search needs) (λ c κs. tt) (λ c. search needs) (λ c. search needs)
+    (λ c κs. tt) (λ c. search needs) (λ c. search needs) (λ c κs. tt) (λ c. search needs) (λ c. search needs) (λ c κs. tt)
+    (λ c. search needs) (λ c. search needs) (λ c. search needs) (λ c κs. tt) (λ c. rw (c .enum-told .given .1) put-nil)
+    (λ c. rw (c .enum-told2 .given .1) put-nil) (λ c. search needs)
+    (λ c. rw (c .before .before .before .before .before .enum-told3 .given .1) (c .before .before .put .ensures))
+    (λ c. search needs)
+    (λ c. rw (c .before .before .before .before .before .enum-told4 .given .1) (c .before .before .put2 .ensures))
+    (λ c. search needs)
+    (λ c. rw (c .before .before .before .before .before .enum-told5 .given .1) (c .before .before .put3 .ensures))
+    (λ c. search needs)
+    (λ c. rw (c .before .before .before .before .before .enum-told6 .given .1) (c .before .before .put4 .ensures))
+    (λ c. search needs)
+    (λ c. rw (c .before .before .before .before .before .enum-told7 .given .1) (c .before .before .put5 .ensures))
+    (λ c. search needs)
+    (λ c. rw (c .before .before .before .before .before .enum-told8 .given .1) (c .before .before .put6 .ensures))
+    (λ c. search needs)
+    (λ c. rw (c .before .before .before .before .before .before .kind .given .1) (c .before .before .put-label .ensures)))

@@ -1,0 +1,16 @@
+-- Each case puts its own words. Assumes nothing.
+use borrow.Author.Needs.{needs}
+use Rattle.words_screen.proofs.put_hdr.Statement.{statement}
+use Rattle.words_screen.proofs.put_hdr.Tie as tie
+
+pub put-hdr-spec : {M : Type 1} → statement M
+put-hdr-spec =
+    tie.close
+    (tie.spec
+    (λ c. search needs) (λ c. search needs) (λ c κs. tt) (λ c. search needs) (λ c. search needs) (λ c κs. tt) (λ c. search needs)
+    (λ c. search needs) (λ c. search needs) (λ c κs. tt) (λ c. search needs)
+    (λ c. rw (c .before .before .before .before .before .enum-told .given .1) (c .before .before .put .ensures))
+    (λ c. search needs)
+    (λ c. rw (c .before .before .before .before .before .enum-told2 .given .1) (c .before .before .put2 .ensures))
+    (λ c. search needs)
+    (λ c. rw (c .before .before .before .before .before .before .kind .given .1) (c .before .before .put-label .ensures)))

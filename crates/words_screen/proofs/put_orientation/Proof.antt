@@ -1,0 +1,20 @@
+-- Each case puts its own words. Assumes nothing.
+use borrow.Author.Needs.{needs}
+use Rattle.buffer.proofs.Putting.{put-nil}
+use Rattle.words_screen.proofs.put_orientation.Statement.{statement}
+use Rattle.words_screen.proofs.put_orientation.Tie as tie
+
+pub put-orientation-spec : {M : Type 1} → statement M
+put-orientation-spec =
+    tie.close
+    (tie.spec
+    (λ c. search needs) (λ c. search needs) (λ c. search needs) (λ c κs. tt) (λ c. search needs) (λ c. search needs) (λ c κs. tt)
+    (λ c. search needs) (λ c. search needs) (λ c κs. tt) (λ c. search needs) (λ c. search needs) (λ c. search needs) (λ c κs. tt)
+    (λ c. rw (c .enum-told .given .1) put-nil) (λ c. search needs)
+    (λ c. rw (c .before .before .before .before .before .enum-told2 .given .1) (c .before .before .put .ensures))
+    (λ c. search needs)
+    (λ c. rw (c .before .before .before .before .before .enum-told3 .given .1) (c .before .before .put2 .ensures))
+    (λ c. search needs)
+    (λ c. rw (c .before .before .before .before .before .enum-told4 .given .1) (c .before .before .put3 .ensures))
+    (λ c. search needs)
+    (λ c. rw (c .before .before .before .before .before .before .kind .given .1) (c .before .before .put-label .ensures)))
