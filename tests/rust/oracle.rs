@@ -8,8 +8,10 @@ use questions::Question;
 use std::io::{Read, Write};
 use std::process::ExitCode;
 
+/// What the words may be.
 const USAGE: &str = "usage: oracle make SEED | fixed | answer | compare QUESTIONS EXPECTED GOT";
 
+/// Does what the first word says; a failure is one message and status 1.
 fn main() -> ExitCode {
     let words: Vec<String> = std::env::args().skip(1).collect();
     let words: Vec<&str> = words.iter().map(String::as_str).collect();

@@ -84,8 +84,7 @@ fn put_words(out: &mut [u8], at: usize, kind: Kind) -> usize {
     }
 }
 
-// The case of each kind, and the answer on it.
-
+// The answer on 000's `GrammaticalGender`.
 fn gender(k: GrammaticalGender, out: &mut [u8]) -> usize {
     let case = match k {
         GrammaticalGender::Neuter => Case(0, 0),
@@ -96,6 +95,7 @@ fn gender(k: GrammaticalGender, out: &mut [u8]) -> usize {
     said(case, Kind::GrammaticalGender(k), out)
 }
 
+// The answer on 000's `LayoutDir`.
 fn layout_dir(k: LayoutDir, out: &mut [u8]) -> usize {
     let case = match k {
         LayoutDir::Ltr => Case(0, 0),
@@ -105,6 +105,7 @@ fn layout_dir(k: LayoutDir, out: &mut [u8]) -> usize {
     said(case, Kind::LayoutDir(k), out)
 }
 
+// The answer on 000's `ScreenSize`.
 fn screen_size(k: ScreenSize, out: &mut [u8]) -> usize {
     let case = match k {
         ScreenSize::Small => Case(0, 0),
@@ -116,6 +117,7 @@ fn screen_size(k: ScreenSize, out: &mut [u8]) -> usize {
     said(case, Kind::ScreenSize(k), out)
 }
 
+// The answer on 000's `ScreenLong`.
 fn screen_long(k: ScreenLong, out: &mut [u8]) -> usize {
     let case = match k {
         ScreenLong::No => Case(0, 0),
@@ -125,6 +127,7 @@ fn screen_long(k: ScreenLong, out: &mut [u8]) -> usize {
     said(case, Kind::ScreenLong(k), out)
 }
 
+// The answer on 000's `ScreenRound`.
 fn screen_round(k: ScreenRound, out: &mut [u8]) -> usize {
     let case = match k {
         ScreenRound::No => Case(0, 0),
@@ -134,6 +137,7 @@ fn screen_round(k: ScreenRound, out: &mut [u8]) -> usize {
     said(case, Kind::ScreenRound(k), out)
 }
 
+// The answer on 000's `WideColorGamut`.
 fn wide_color_gamut(k: WideColorGamut, out: &mut [u8]) -> usize {
     let case = match k {
         WideColorGamut::No => Case(0, 0),
@@ -143,6 +147,7 @@ fn wide_color_gamut(k: WideColorGamut, out: &mut [u8]) -> usize {
     said(case, Kind::WideColorGamut(k), out)
 }
 
+// The answer on 000's `Hdr`.
 fn hdr(k: Hdr, out: &mut [u8]) -> usize {
     let case = match k {
         Hdr::No => Case(0, 0),
@@ -152,6 +157,7 @@ fn hdr(k: Hdr, out: &mut [u8]) -> usize {
     said(case, Kind::Hdr(k), out)
 }
 
+// The answer on 000's `Orientation`.
 fn orientation(k: Orientation, out: &mut [u8]) -> usize {
     let case = match k {
         Orientation::Any => Case(0, 0),
@@ -163,6 +169,7 @@ fn orientation(k: Orientation, out: &mut [u8]) -> usize {
     said(case, Kind::Orientation(k), out)
 }
 
+// The answer on 000's `UIMode`.
 fn ui_mode(k: UIMode, out: &mut [u8]) -> usize {
     let case = match k {
         UIMode::Any => Case(0, 0),
@@ -178,6 +185,7 @@ fn ui_mode(k: UIMode, out: &mut [u8]) -> usize {
     said(case, Kind::UIMode(k), out)
 }
 
+// The answer on 000's `UIModeNight`.
 fn ui_mode_night(k: UIModeNight, out: &mut [u8]) -> usize {
     let case = match k {
         UIModeNight::Any => Case(0, 0),
@@ -188,6 +196,7 @@ fn ui_mode_night(k: UIModeNight, out: &mut [u8]) -> usize {
     said(case, Kind::UIModeNight(k), out)
 }
 
+// The answer on 000's `Density`.
 fn density(k: Density, out: &mut [u8]) -> usize {
     let case = match k {
         Density::Default => Case(0, 0),
@@ -205,6 +214,7 @@ fn density(k: Density, out: &mut [u8]) -> usize {
     said(case, Kind::Density(k), out)
 }
 
+// The answer on 000's `Touchscreen`.
 fn touchscreen(k: Touchscreen, out: &mut [u8]) -> usize {
     let case = match k {
         Touchscreen::Any => Case(0, 0),
@@ -216,6 +226,7 @@ fn touchscreen(k: Touchscreen, out: &mut [u8]) -> usize {
     said(case, Kind::Touchscreen(k), out)
 }
 
+// The answer on 000's `KeysHidden`.
 fn keys_hidden(k: KeysHidden, out: &mut [u8]) -> usize {
     let case = match k {
         KeysHidden::Any => Case(0, 0),
@@ -226,6 +237,7 @@ fn keys_hidden(k: KeysHidden, out: &mut [u8]) -> usize {
     said(case, Kind::KeysHidden(k), out)
 }
 
+// The answer on 000's `Keyboard`.
 fn keyboard(k: Keyboard, out: &mut [u8]) -> usize {
     let case = match k {
         Keyboard::Any => Case(0, 0),
@@ -237,6 +249,7 @@ fn keyboard(k: Keyboard, out: &mut [u8]) -> usize {
     said(case, Kind::Keyboard(k), out)
 }
 
+// The answer on 000's `NavHidden`.
 fn nav_hidden(k: NavHidden, out: &mut [u8]) -> usize {
     let case = match k {
         NavHidden::Any => Case(0, 0),
@@ -247,6 +260,7 @@ fn nav_hidden(k: NavHidden, out: &mut [u8]) -> usize {
     said(case, Kind::NavHidden(k), out)
 }
 
+// The answer on 000's `Navigation`.
 fn navigation(k: Navigation, out: &mut [u8]) -> usize {
     let case = match k {
         Navigation::Any => Case(0, 0),

@@ -37,6 +37,7 @@ fn replay(payload: &mut [u8], answer: &mut [u8], line: &mut [u8]) {
     }
 }
 
+// Lends the buffers: a payload of 65,536 bytes and some more, an answer as long, and its line.
 fn main() {
     let mut payload = [0u8; 65792];
     let mut answer = [0u8; 65792];
