@@ -73,14 +73,14 @@ fn said(case: Case, kind: Kind, out: &mut [u8]) -> usize {
     put_words(out, at, kind)
 }
 
-// Writes a kind's words from a place on.
+// Writes a kind's words from a place on, and gives their end; a refusal, which no question should meet, leaves no answer.
 fn put_words(out: &mut [u8], at: usize, kind: Kind) -> usize {
     if out.len() < at {
-        return at;
+        return 0;
     }
     match words::write_words(&mut out[at..], kind) {
         Written::Wrote(n) => std::num::wrapping_add_usize(at, n),
-        Written::Refused(_) => at,
+        Written::Refused(_) => 0,
     }
 }
 
