@@ -1,0 +1,97 @@
+//! The Rust side of the comparison: makes questions, answers them by 000, and compares the port's answers with its own.
+mod kinds;
+mod questions;
+mod shim;
+mod subject;
+
+use questions::Question;
+use std::io::{Read, Write};
+use std::process::ExitCode;
+
+/// What the words may be.
+const USAGE: &str = "usage: oracle make SEED | fixed | answer | compare QUESTIONS EXPECTED GOT";
+
+/// Does what the first word says; a failure is one message and status 1.
+fn main() -> ExitCode {
+    let words: Vec<String> = std::env::args().skip(1).collect();
+    let words: Vec<&str> = words.iter().map(String::as_str).collect();
+    let done = match words[..] {
+        ["make", seed] => make(seed),
+        ["fixed"] => write(&frames(&questions::fixed())),
+        ["answer"] => answer(),
+        ["compare", questions, expected, got] => compare(questions, expected, got),
+        _ => Err(USAGE.into()),
+    };
+    match done {
+        Ok(()) => ExitCode::SUCCESS,
+        Err(why) => {
+            eprintln!("oracle: {why}");
+            ExitCode::FAILURE
+        }
+    }
+}
+
+/// Writes the questions of the full run.
+fn make(seed: &str) -> Result<(), String> {
+    let seed = seed.parse().map_err(|_| format!("{seed} is no seed"))?;
+    write(&frames(&questions::full(seed)))
+}
+
+/// Writes bytes to standard output.
+fn write(bytes: &[u8]) -> Result<(), String> {
+    std::io::stdout().write_all(bytes).map_err(|e| e.to_string())
+}
+
+/// The questions as they are sent.
+fn frames(questions: &[Question]) -> Vec<u8> {
+    questions.iter().flat_map(Question::frame).collect()
+}
+
+/// Lowercase hexadecimal digits, two to a byte.
+fn hex(bytes: &[u8]) -> String {
+    bytes.iter().map(|byte| format!("{byte:02x}")).collect()
+}
+
+/// Answers the questions of standard input, a line of hexadecimal digits to each.
+fn answer() -> Result<(), String> {
+    let mut bytes = Vec::new();
+    std::io::stdin().read_to_end(&mut bytes).map_err(|e| e.to_string())?;
+    let lines: String = questions::read(&bytes)?.iter().map(|question| hex(&question.answer()) + "\n").collect();
+    write(lines.as_bytes())
+}
+
+/// Compares two files of answers to the same questions, and says how many questions of each kind were asked.
+fn compare(questions: &str, expected: &str, got: &str) -> Result<(), String> {
+    let file = |path: &str| std::fs::read(path).map_err(|e| format!("{path}: {e}"));
+    let questions = questions::read(&file(questions)?)?;
+    let (expected, got) = (file(expected)?, file(got)?);
+    let (mut rust, mut port) = (expected.split_inclusive(|b| *b == b'\n'), got.split_inclusive(|b| *b == b'\n'));
+    for (at, question) in questions.iter().enumerate() {
+        let (rust, port) = (rust.next(), port.next());
+        if rust != port {
+            return Err(format!(
+                "the answers to question {} of {} differ\n  question  {}: {}\n  the Rust  {}\n  the port  {}",
+                at + 1,
+                questions.len(),
+                question.asked.name,
+                hex(&question.frame()),
+                said(rust),
+                said(port)
+            ));
+        }
+    }
+    if let (None, None) = (rust.next(), port.next()) {
+        for asked in questions::all() {
+            let count = questions.iter().filter(|question| question.asked.tag == asked.tag).count();
+            println!("{count:8} {}", asked.name);
+        }
+        println!("{:8} questions, every answer the same byte for byte", questions.len());
+        return Ok(());
+    }
+    Err(format!("there are more answers than the {} questions", questions.len()))
+}
+
+/// A line of answers as a message shows it.
+fn said(line: Option<&[u8]>) -> String {
+    line.map_or("(nothing: the answers end here)".into(), |line| format!("{:?}", String::from_utf8_lossy(line)))
+}
