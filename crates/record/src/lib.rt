@@ -1,9 +1,19 @@
 // The record, its field table and the ages of readers.
+mod accessors;
 mod age;
 
+pub use accessors::KeyboardNavigationInputFlags;
+pub use accessors::MccMnc;
+pub use accessors::OrientationTouchscreenDensity;
+pub use accessors::ScreenLayout2ColorMode;
+pub use accessors::ScreenLayoutUiSmallestWidth;
+pub use accessors::ScreenWidthHeight;
+pub use accessors::ScreenWidthHeightDp;
+pub use accessors::SdkMinorVersion;
 pub use age::Age;
 ghost use mathlib.Core.Path.{_≡_};
 ghost use Rattle.record.specs.Blank.{blankRecord};
+ghost use Rattle.record.specs.Table.{endOf, startOf};
 
 // A resource configuration, with 000's fields in the table's order.
 pub struct ResTableConfig {
@@ -29,6 +39,20 @@ pub const STARTS: [usize; 15] = [0, 4, 8, 12, 16, 20, 24, 28, 32, 36, 40, 48, 52
 
 // Where each of the fifteen fields ends, end not included.
 pub const ENDS: [usize; 15] = [4, 8, 12, 16, 20, 24, 28, 32, 36, 40, 48, 52, 53, 61, 64];
+
+// Where a field starts, fields counted from 0, and 0 past the last.
+pub fn field_start(f: usize) -> usize
+    ensures { λ r. ⌜ r ≡ startOf f ⌝ }
+{
+    if f < 15 { STARTS[f] } else { 0 }
+}
+
+// Where a field ends, fields counted from 0, and 0 past the last.
+pub fn field_end(f: usize) -> usize
+    ensures { λ r. ⌜ r ≡ endOf f ⌝ }
+{
+    if f < 15 { ENDS[f] } else { 0 }
+}
 
 // The record that holds nothing.
 pub fn blank() -> ResTableConfig
