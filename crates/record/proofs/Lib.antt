@@ -1,1 +1,4 @@
 pub mod Among
+pub mod Chain
+pub mod Lex
+pub mod Packing
