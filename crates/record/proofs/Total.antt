@@ -1,12 +1,12 @@
 -- The order is total: two records stand to each other in one way, read from either side, and three in a row stand in order.
 -- Equal means that all fourteen fields agree. Assumes nothing.
-use Prim.Native.Nat.{ℕ, zero, suc, _<_, _≤_}
+use Prim.Native.Nat.{ℕ, _<_}
 use mathlib.Core.Path.{_≡_, refl, sym, ap, _∙_}
-use mathlib.Core.Bool.{Bool, true, false}
-use mathlib.Core.List.{List, [], _∷_, _++_}
+use mathlib.Core.Bool.{true}
+use mathlib.Core.List.{List, [], _∷_}
 use mathlib.Core.Logic.{_⊎_, inl, inr}
 use native.Mathlib.Omega.{arith}
-use Rattle.record.specs.Order.{numberOrder, andThen, lex, agree, key, orderOf, equalOf, orderingTells}
+use Rattle.record.specs.Order.{numberOrder, andThen, lex, key, orderOf, equalOf}
 use Rattle.record.specs.declared.ResTableConfig.{ResTableConfig}
 use Rattle.record.specs.declared.order.Ordering.{Ordering}
 use Rattle.record.proofs.Lex.{less-is, greater-is, equal-is, by-order, isEqual, agree-order}
@@ -151,17 +151,3 @@ eq-keys a b e = equal-keys a b (is-equal (orderOf a b) (sym (eq-cmp a b) ∙ e))
 -- and to no other
 pub keys-eq : (a b : ResTableConfig) → key a ≡ key b → equalOf a b ≡ true
 keys-eq a b e = eq-cmp a b ∙ ap isEqual (keys-equal a b e)
-
--- the number of an order fixes the order
-pub tells-one : (o p : Ordering) → orderingTells o ≡ orderingTells p → o ≡ p
-tells-one o p e = sym (there o) ∙ (ap back e ∙ there p)
-  where
-    back : ℕ → Ordering
-    back zero = Ordering.Less
-    back (suc zero) = Ordering.Equal
-    back (suc (suc n)) = Ordering.Greater
-
-    there : (q : Ordering) → back (orderingTells q) ≡ q
-    there Ordering.Less = refl
-    there Ordering.Equal = refl
-    there Ordering.Greater = refl
