@@ -53,7 +53,7 @@ pub const ASKED: &[Asked] = &[
     },
 ];
 
-/// Whether the port has a writer to ask; its answer is 01's rule, applied to what the Rust read.
+/// Whether the port has a writer yet: until then nothing is asked to be written back.
 const PORT_WRITES: bool = false;
 
 /// The answer where there is no whole record: the Rust has one error, and not 01's 1 and 2.

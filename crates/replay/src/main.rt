@@ -1,6 +1,6 @@
-// Answers the questions of tests/ on the flags and the kinds for the port: reads framed questions (tag, length in four bytes, payload)
-// from standard input, and writes each answer to standard output as a line of lowercase hexadecimal digits. The Rust of
-// 000 answers the same questions beside it.
+// Answers the questions of tests/ on the flags and the kinds for the port: reads framed questions (tag, length in four
+// bytes, payload) from standard input, and writes each answer to standard output as a line of lowercase hexadecimal
+// digits. The Rust of 000 answers the same questions beside it.
 mod cases;
 
 use libc::STDIN_FILENO;
