@@ -1,25 +1,32 @@
 //! The Rust side of the comparison: makes questions, answers them by 000, and compares the port's answers with its own.
 mod kinds;
+mod payloads;
 mod questions;
+mod records;
 mod shim;
 mod subject;
 
-use questions::Question;
+use questions::{answered_by, Question};
 use std::io::{Read, Write};
 use std::process::ExitCode;
 
 /// What the words may be.
-const USAGE: &str = "usage: oracle make SEED | fixed | answer | compare QUESTIONS EXPECTED GOT";
+const USAGE: &str = "usage: oracle programs
+       oracle make PROGRAM SEED
+       oracle fixed PROGRAM
+       oracle answer PROGRAM
+       oracle compare PROGRAM QUESTIONS EXPECTED GOT";
 
 /// Does what the first word says; a failure is one message and status 1.
 fn main() -> ExitCode {
     let words: Vec<String> = std::env::args().skip(1).collect();
     let words: Vec<&str> = words.iter().map(String::as_str).collect();
     let done = match words[..] {
-        ["make", seed] => make(seed),
-        ["fixed"] => write(&frames(&questions::fixed())),
-        ["answer"] => answer(),
-        ["compare", questions, expected, got] => compare(questions, expected, got),
+        ["programs"] => programs(),
+        ["make", program, seed] => make(program, seed),
+        ["fixed", program] => answered_by(program).and_then(|table| write(&frames(&questions::fixed(table)))),
+        ["answer", program] => answer(program),
+        ["compare", program, questions, expected, got] => compare(program, questions, expected, got),
         _ => Err(USAGE.into()),
     };
     match done {
@@ -31,10 +38,16 @@ fn main() -> ExitCode {
     }
 }
 
-/// Writes the questions of the full run.
-fn make(seed: &str) -> Result<(), String> {
+/// Writes the names of the programs over the port, a line to each.
+fn programs() -> Result<(), String> {
+    let names: String = questions::TABLES.iter().map(|(program, _)| format!("{program}\n")).collect();
+    write(names.as_bytes())
+}
+
+/// Writes the questions that a program is asked in the full run.
+fn make(program: &str, seed: &str) -> Result<(), String> {
     let seed = seed.parse().map_err(|_| format!("{seed} is no seed"))?;
-    write(&frames(&questions::full(seed)))
+    write(&frames(&questions::full(answered_by(program)?, seed)))
 }
 
 /// Writes bytes to standard output.
@@ -52,18 +65,20 @@ fn hex(bytes: &[u8]) -> String {
     bytes.iter().map(|byte| format!("{byte:02x}")).collect()
 }
 
-/// Answers the questions of standard input, a line of hexadecimal digits to each.
-fn answer() -> Result<(), String> {
+/// Answers a program's questions of standard input, a line of hexadecimal digits to each.
+fn answer(program: &str) -> Result<(), String> {
     let mut bytes = Vec::new();
     std::io::stdin().read_to_end(&mut bytes).map_err(|e| e.to_string())?;
-    let lines: String = questions::read(&bytes)?.iter().map(|question| hex(&question.answer()) + "\n").collect();
+    let questions = questions::read(answered_by(program)?, &bytes)?;
+    let lines: String = questions.iter().map(|question| hex(&question.answer()) + "\n").collect();
     write(lines.as_bytes())
 }
 
-/// Compares two files of answers to the same questions, and says how many questions of each kind were asked.
-fn compare(questions: &str, expected: &str, got: &str) -> Result<(), String> {
+/// Compares two files of answers to a program's questions, and says how many questions of each kind were asked.
+fn compare(program: &str, questions: &str, expected: &str, got: &str) -> Result<(), String> {
+    let table = answered_by(program)?;
     let file = |path: &str| std::fs::read(path).map_err(|e| format!("{path}: {e}"));
-    let questions = questions::read(&file(questions)?)?;
+    let questions = questions::read(table, &file(questions)?)?;
     let (expected, got) = (file(expected)?, file(got)?);
     let (mut rust, mut port) = (expected.split_inclusive(|b| *b == b'\n'), got.split_inclusive(|b| *b == b'\n'));
     for (at, question) in questions.iter().enumerate() {
@@ -81,7 +96,7 @@ fn compare(questions: &str, expected: &str, got: &str) -> Result<(), String> {
         }
     }
     if let (None, None) = (rust.next(), port.next()) {
-        for asked in questions::all() {
+        for asked in table {
             let count = questions.iter().filter(|question| question.asked.tag == asked.tag).count();
             println!("{count:8} {}", asked.name);
         }

@@ -1,5 +1,5 @@
 //! What a question is, how questions are made, and how they are framed: tag, length in four bytes, payload.
-use crate::kinds;
+use crate::{kinds, records};
 
 /// One kind of question: its tag, its name, its payloads in the full run and in the fixed list, and how the Rust answers.
 pub struct Asked {
@@ -10,12 +10,13 @@ pub struct Asked {
     pub answer: fn(&[u8]) -> Vec<u8>,
 }
 
-/// Every kind of question, a table to a file.
-pub const TABLES: &[&[Asked]] = &[kinds::ASKED];
+/// The programs over the port that answer questions, and the kinds of question that each answers, a table to a file.
+pub const TABLES: &[(&str, &[Asked])] = &[("replay", kinds::ASKED), ("replay_records", records::ASKED)];
 
-/// The rows of the tables.
-pub fn all() -> impl Iterator<Item = &'static Asked> {
-    TABLES.iter().copied().flatten()
+/// The kinds of question that a program answers.
+pub fn answered_by(program: &str) -> Result<&'static [Asked], String> {
+    let table = TABLES.iter().find(|table| table.0 == program);
+    table.map(|table| table.1).ok_or(format!("no table is for the program {program}"))
 }
 
 /// A question: its kind and its payload.
@@ -41,10 +42,10 @@ impl Question {
 }
 
 /// The questions of the full run, in an order that goes by the seed, so that no answer leans on the one before it.
-pub fn full(seed: u64) -> Vec<Question> {
+pub fn full(table: &'static [Asked], seed: u64) -> Vec<Question> {
     let random = &mut Random(seed);
     let mut questions = Vec::new();
-    for asked in all() {
+    for asked in table {
         questions.extend((asked.full)(random).into_iter().map(|payload| Question { asked, payload }));
     }
     for i in (1..questions.len()).rev() {
@@ -53,22 +54,29 @@ pub fn full(seed: u64) -> Vec<Question> {
     questions
 }
 
-/// The questions of the fixed list, in the tables' order.
-pub fn fixed() -> Vec<Question> {
-    all().flat_map(|asked| (asked.fixed)().into_iter().map(move |payload| Question { asked, payload })).collect()
+/// The questions of the fixed list, in the table's order.
+pub fn fixed(table: &'static [Asked]) -> Vec<Question> {
+    table.iter().flat_map(|asked| (asked.fixed)().into_iter().map(move |payload| Question { asked, payload })).collect()
 }
 
 /// The questions that framed bytes hold.
-pub fn read(mut bytes: &[u8]) -> Result<Vec<Question>, String> {
+pub fn read(table: &'static [Asked], mut bytes: &[u8]) -> Result<Vec<Question>, String> {
     let mut questions = Vec::new();
     while let Some((header, rest)) = bytes.split_at_checked(5) {
-        let asked = all().find(|asked| asked.tag == header[0]).ok_or(format!("no question has the tag {}", header[0]))?;
+        let asked = table
+            .iter()
+            .find(|asked| asked.tag == header[0])
+            .ok_or(format!("no question has the tag {}", header[0]))?;
         let length = u32::from_le_bytes([header[1], header[2], header[3], header[4]]);
         let (payload, rest) = rest.split_at_checked(length as usize).ok_or("the last question is cut short")?;
         questions.push(Question { asked, payload: payload.to_vec() });
         bytes = rest;
     }
-    if bytes.is_empty() { Ok(questions) } else { Err("the last question is cut short".into()) }
+    if bytes.is_empty() {
+        Ok(questions)
+    } else {
+        Err("the last question is cut short".into())
+    }
 }
 
 /// Numbers that go by a seed (splitmix64).
@@ -87,5 +95,10 @@ impl Random {
     /// The next number, below a bound that is not 0.
     pub fn below(&mut self, bound: usize) -> usize {
         (self.next() % bound as u64) as usize
+    }
+
+    /// So many bytes.
+    pub fn bytes(&mut self, count: usize) -> Vec<u8> {
+        (0..count).map(|_| self.next() as u8).collect()
     }
 }

@@ -1,4 +1,5 @@
-// The answers to the questions on the flags and on the sixteen kinds.
+// What the port answers to each kind of question on the flags and on the sixteen kinds, by its tag. The table of tests/rust
+// has the same tags.
 use answers::Written;
 use kinds::Density;
 use kinds::GrammaticalGender;
@@ -22,25 +23,33 @@ use kinds::WideColorGamut;
 // Which case a kind is, in 000's order of declaration, and the number that the case holds, 0 where it holds none.
 struct Case(u8, u16);
 
+// Answers a question at the front of `out`, and gives the answer's length. A tag that is none of these has no answer.
+pub(crate) fn answer(tag: u8, payload: &[u8], out: &mut [u8]) -> usize {
+    match tag {
+        0..=15 => kind(tag, frames::two(payload), out),
+        16 => flag(frames::two(payload), out),
+        17 => density_and_back(frames::two(payload), out),
+        _ => 0,
+    }
+}
+
 // The bits of a row of the flags.
-pub(crate) fn flag(row: u16, out: &mut [u8]) -> usize {
+fn flag(row: u16, out: &mut [u8]) -> usize {
     let flag = ResTableConfigFlags::nth(row as usize);
-    let bits = flag.0;
-    let at = put_number(out, 0, (bits % 65536) as u16);
-    put_number(out, at, (bits / 65536) as u16)
+    frames::put_four(out, 0, flag.0)
 }
 
 // A number made a density and back.
-pub(crate) fn density_and_back(n: u16, out: &mut [u8]) -> usize {
-    put_number(out, 0, Density::from(n).number())
+fn density_and_back(n: u16, out: &mut [u8]) -> usize {
+    frames::put_two(out, 0, Density::from(n).number())
 }
 
 // The answer on the kind that a tag names, made of a number: its case, what the case holds, its words.
-pub(crate) fn kind(tag: u8, n: u16, out: &mut [u8]) -> usize {
+fn kind(tag: u8, n: u16, out: &mut [u8]) -> usize {
     let kind = kind_of(tag, n);
     let case = case_of(kind);
     let at = buffer::put_byte(out, 0, case.0);
-    let at = put_number(out, at, case.1);
+    let at = frames::put_two(out, at, case.1);
     put_words(out, at, kind)
 }
 
@@ -87,12 +96,6 @@ fn case_of(kind: Kind) -> Case {
         Kind::NavHidden(k) => nav_hidden(k),
         Kind::Navigation(k) => navigation(k),
     }
-}
-
-// Puts a number's two bytes.
-fn put_number(out: &mut [u8], at: usize, n: u16) -> usize {
-    let next = buffer::put_byte(out, at, (n % 256) as u8);
-    buffer::put_byte(out, next, (n / 256) as u8)
 }
 
 // Writes a kind's words from a place on, and gives their end; a refusal, which no question should meet, leaves no answer.

@@ -1,0 +1,63 @@
+-- The rule of reading as one limit: a field is read exactly when it ends within T, and at an age within the lesser of both.
+-- Assumes nothing.
+use Prim.Native.Nat.{ℕ, _≤_, _<_, max, min}
+use mathlib.Core.Path.{_≡_, refl, sym, ap, _∙_}
+use mathlib.Core.Bool.{Bool, true, false, cond, _&&_, _||_}
+use mathlib.Core.List.{List}
+use native.Mathlib.Omega.{arith}
+use native.Mathlib.Decide.{decLe}
+use lib.Dec.{T, leb, ltb, leb→le, ltb→lt}
+use borrow.Author.Tests.{le-leb, lt-leb}
+use Rattle.record.specs.Table.{startOf, endOf}
+use Rattle.reading.specs.Reading.{reads, readsAt, recordBy, plain, aged, sizeOf, taken}
+use Rattle.reading.proofs.Rows.{in-row}
+use Rattle.reading.proofs.FieldBytes.{record-by}
+
+-- the first four fields end within 16, and the others past it
+first-four : (f : ℕ) → f < 15 → T (cond (ltb f 4) (leb (endOf f) 16) (ltb 16 (endOf f)))
+first-four = in-row (λ f. cond (ltb f 4) (leb (endOf f) 16) (ltb 16 (endOf f))) 15 tt
+
+-- every field has a byte
+pub start-end : (f : ℕ) → f < 15 → startOf f < endOf f
+start-end f h = ltb→lt (startOf f) (endOf f) (in-row (λ g. ltb (startOf g) (endOf g)) 15 tt f h)
+
+-- no field ends past 64
+pub end-most : (f : ℕ) → f < 15 → endOf f ≤ 64
+end-most f h = leb→le (endOf f) 64 (in-row (λ g. leb (endOf g) 64) 15 tt f h)
+
+rule : (e size : ℕ) (always : Bool) → T (cond always (leb e 16) (ltb 16 e)) → always || leb e size ≡ leb e (max size 16)
+rule e size true t = let h = leb→le e 16 t in sym (le-leb e (max size 16) (omega arith))
+rule e size false t =
+    let l = ltb→lt 16 e t in
+    elim (decLe e size) [
+      | yes h ↦ le-leb e size h ∙ sym (le-leb e (max size 16) (omega arith))
+      | no h ↦ lt-leb e size (omega arith) ∙ sym (lt-leb e (max size 16) (omega arith))
+    ]
+
+-- a field is read exactly when it ends within T
+pub reads-is : (f size : ℕ) → f < 15 → reads size f ≡ leb (endOf f) (max size 16)
+unfolding reads
+reads-is f size h = rule (endOf f) size (ltb f 4) (first-four f h)
+
+both : (e t a : ℕ) → leb e a && leb e t ≡ leb e (min t a)
+both e t a =
+    elim (decLe e a) [
+      | yes h ↦ rw (le-leb e a h) (elim (decLe e t) [
+        | yes g ↦ le-leb e t g ∙ sym (le-leb e (min t a) (omega arith))
+        | no g ↦ lt-leb e t (omega arith) ∙ sym (lt-leb e (min t a) (omega arith))
+      ])
+      | no h ↦ let g : a < e = omega arith in rw (lt-leb e a g) (sym (lt-leb e (min t a) (omega arith)))
+    ]
+
+pub plain-is : (s : List ℕ) → plain s ≡ recordBy (λ f. leb (endOf f) (taken s)) s
+unfolding plain
+plain-is s = record-by _ _ s (λ f h. reads-is f (sizeOf s) h)
+
+pub aged-is : (a : ℕ) (s : List ℕ) → aged a s ≡ recordBy (λ f. leb (endOf f) (min (taken s) a)) s
+unfolding aged
+aged-is a s = record-by _ _ s (λ f h. rw (reads-is f (sizeOf s) h) (both (endOf f) (taken s) a))
+
+-- at age 64 aged reading is plain reading
+pub aged-plain : (s : List ℕ) → aged 64 s ≡ plain s
+unfolding aged plain
+aged-plain s = record-by _ _ s (λ f h. rw (le-leb (endOf f) 64 (end-most f h)))

@@ -1,0 +1,22 @@
+-- Any two outcomes that a contract of this crate allows for the same input are one. Assumes nothing.
+use mathlib.Core.Path.{_≡_, sym, ap, _∙_}
+use Rattle.answers.specs.declared.Told.{Told}
+use Rattle.answers.specs.declared.Taken.{Taken}
+use Rattle.answers.specs.Tells.{takenTells}
+use Rattle.answers.proofs.OneToOne.{taken-one}
+use Rattle.record.specs.declared.ResTableConfig.{ResTableConfig}
+use Rattle.reading.specs.declared.Parsed.{Parsed}
+use Rattle.reading.specs.Reading.{ParseOutcome, parsedOutcome}
+
+parsed-same : {a b : Taken} {r s : ResTableConfig} → a ≡ b → r ≡ s → _≡_ {A = Parsed} (record { answer = a; «record» = r }) (record { answer = b; «record» = s })
+parsed-same p q = cc
+
+-- of `parse` and `parse_aged`, whatever their outcome o is defined to be: the answer and the record are fixed
+pub one-parse : {o : ParseOutcome} (r s : Parsed) → parsedOutcome r ≡ o → parsedOutcome s ≡ o → r ≡ s
+one-parse r s p q =
+    let e = p ∙ sym q in
+    parsed-same (taken-one (r .answer) (s .answer) (ap (λ (z : ParseOutcome). z .tells) e)) (ap (λ (z : ParseOutcome). z .gives) e)
+
+-- of `amount`: the answer is fixed
+pub one-amount : {t : Told} (r s : Taken) → takenTells r ≡ t → takenTells s ≡ t → r ≡ s
+one-amount r s p q = taken-one r s (p ∙ sym q)

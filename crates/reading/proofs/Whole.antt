@@ -1,0 +1,91 @@
+-- When a record is whole, and what the answer of `amount` says of it. Assumes nothing.
+use Prim.Native.Nat.{ℕ, _≤_, _<_}
+use mathlib.Core.Path.{_≡_, refl, sym, ap, _∙_}
+use mathlib.Core.Bool.{Bool, true, false, cond}
+use mathlib.Core.List.{List}
+use native.Mathlib.Omega.{arith}
+use native.Mathlib.Decide.{decLt}
+use lib.Dec.{ltb}
+use lib.ListN.{length}
+use borrow.Author.Tests.{lt-ltb, le-ltb}
+use Rattle.answers.specs.declared.Refusal.{Refusal}
+use Rattle.answers.specs.declared.Told.{Told}
+use Rattle.answers.specs.Numbers.{numberOf}
+use Rattle.answers.specs.Tells.{success, refusal}
+use Rattle.answers.proofs.OneToOne.{number-one, number-pos}
+use Rattle.record.specs.Ages.{isAge}
+use Rattle.reading.specs.Reading.{ifWhole, ifAge, sizeOf, taken, amountOf}
+
+module _ {A : Type 0} (s : List ℕ) (refuse : Refusal → A) (give : A) where
+  -- fewer than 16 bytes
+  pub whole-short : length s < 16 → ifWhole s refuse give ≡ refuse Refusal.FewerThan16
+  unfolding ifWhole
+  whole-short h = rw (lt-ltb (length s) 16 h)
+
+  -- 16 bytes or more, and fewer than size
+  pub whole-cut : 16 ≤ length s → length s < sizeOf s → ifWhole s refuse give ≡ refuse Refusal.FewerThanSize
+  unfolding ifWhole
+  whole-cut h g = rw (le-ltb (length s) 16 h, lt-ltb (length s) (sizeOf s) g)
+
+  -- T bytes are there
+  pub whole-took : taken s ≤ length s → ifWhole s refuse give ≡ give
+  unfolding ifWhole
+  whole-took h =
+      let g : 16 ≤ length s = omega arith in
+      let k : sizeOf s ≤ length s = omega arith in
+      rw (le-ltb (length s) 16 g, le-ltb (length s) (sizeOf s) k)
+
+cond-map : {A B : Type 0} (f : A → B) (b : Bool) (x y : A) → f (cond b x y) ≡ cond b (f x) (f y)
+cond-map f true x y = refl
+cond-map f false x y = refl
+
+-- what is said of a call is said of each way that it goes
+pub whole-map : {A B : Type 0} (f : A → B) (s : List ℕ) (refuse : Refusal → A) (give : A)
+    → f (ifWhole s refuse give) ≡ ifWhole s (λ why. f (refuse why)) (f give)
+unfolding ifWhole
+whole-map f s refuse give =
+    rw (cond-map f (ltb (length s) 16) (refuse Refusal.FewerThan16) _, cond-map f (ltb (length s) (sizeOf s)) (refuse Refusal.FewerThanSize) give)
+
+-- an age, and a number that is none
+module _ {A : Type 0} (a : ℕ) (refuse : Refusal → A) (give : A) where
+  pub age-known : true ≡ isAge a → ifAge a refuse give ≡ give
+  unfolding ifAge
+  age-known h = rw (← h)
+
+  pub age-unknown : false ≡ isAge a → ifAge a refuse give ≡ refuse Refusal.NotAnAge
+  unfolding ifAge
+  age-unknown h = rw (← h)
+
+-- T bytes are there, and n is T
+pub took-is : (s : List ℕ) (n : ℕ) → n ≡ taken s → taken s ≤ length s → success n ≡ amountOf s
+took-is s n e h = ap success e ∙ sym (whole-took s _ _ h)
+
+told-number : {a b : Told} → a ≡ b → a .number ≡ b .number
+told-number e = ap (λ (t : Told). t .number) e
+
+-- an answer that took n bytes: they are T, and they are there
+pub took-says : (s : List ℕ) (n : ℕ) → success n ≡ amountOf s → (n ≡ taken s) × (taken s ≤ length s)
+took-says s n e =
+    elim (decLt (length s) 16) [
+      | yes h ↦ absurd (let z = told-number (e ∙ whole-short s _ _ h) in omega arith)
+      | no h ↦ elim (decLt (length s) (sizeOf s)) [
+        | yes g ↦ absurd (let z = told-number (e ∙ whole-cut s _ _ (omega arith) g) in omega arith)
+        | no g ↦ let t : taken s ≤ length s = omega arith in (ap (λ (t : Told). t .amount) (e ∙ whole-took s _ _ t), t)
+      ]
+    ]
+
+-- an answer that took bytes: the record is whole
+pub took-whole : {A : Type 0} (s : List ℕ) (refuse : Refusal → A) (give : A) (n : ℕ) → success n ≡ amountOf s → ifWhole s refuse give ≡ give
+took-whole s refuse give n e = whole-took s refuse give (took-says s n e .1)
+
+-- an answer that refused: the same refusal stands for every call
+pub refused-whole : {A : Type 0} (s : List ℕ) (refuse : Refusal → A) (give : A) (why : Refusal) → refusal (numberOf why) ≡ amountOf s → ifWhole s refuse give ≡ refuse why
+refused-whole s refuse give why e =
+    elim (decLt (length s) 16) [
+      | yes h ↦ whole-short s refuse give h ∙ ap refuse (number-one Refusal.FewerThan16 why (sym (told-number (e ∙ whole-short s _ _ h))))
+      | no h ↦ elim (decLt (length s) (sizeOf s)) [
+        | yes g ↦ let k : 16 ≤ length s = omega arith in
+            whole-cut s refuse give k g ∙ ap refuse (number-one Refusal.FewerThanSize why (sym (told-number (e ∙ whole-cut s _ _ k g))))
+        | no g ↦ absurd (let z = told-number (e ∙ whole-took s _ _ (omega arith)) in omega (arith, number-pos why))
+      ]
+    ]

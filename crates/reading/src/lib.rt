@@ -1,0 +1,88 @@
+// Parsing: the record at the front of some bytes, plain or as a reader of an age reads it.
+mod fields;
+
+use answers::Refusal;
+use answers::Taken;
+use record::Age;
+use record::ResTableConfig;
+use record::blank;
+ghost use mathlib.Core.Path.{_≡_};
+ghost use Prim.Native.Nat.{min};
+ghost use Rattle.answers.specs.Tells.{takenTells};
+ghost use Rattle.reading.specs.Reading.{aged, amountOf, ifWhole, parseAged, parseOf, parseRefused, parseTook, parsedOutcome, taken};
+
+// The answer of parsing, beside the record, which holds nothing where the answer is a refusal.
+pub struct Parsed {
+    pub answer: Taken,
+    pub record: ResTableConfig,
+}
+
+// How many bytes the record at the front of bytes takes.
+pub fn amount(bytes: &[u8]) -> Taken
+    ensures { λ r. ⌜ takenTells r ≡ amountOf (now (bytes .entry)) ⌝ }
+{
+    if bytes.len() < 16 {
+        return Taken::Refused(Refusal::FewerThan16);
+    }
+    let size = fields::word(bytes, 0) as usize;
+    if bytes.len() < size {
+        return Taken::Refused(Refusal::FewerThanSize);
+    }
+    if size < 16 {
+        Taken::Took(16)
+    } else {
+        Taken::Took(size)
+    }
+}
+
+// The lesser of two numbers.
+fn lesser(a: usize, b: usize) -> usize
+    ensures { λ r. ⌜ r ≡ min a b ⌝ }
+{
+    if a < b { a } else { b }
+}
+
+// What a refused parse gives.
+fn refuse(why: Refusal) -> Parsed
+    ensures { λ r. ⌜ parsedOutcome r ≡ parseRefused why ⌝ }
+{
+    let record = blank();
+    Parsed {
+        answer: Taken::Refused(why),
+        record,
+    }
+}
+
+// Parses for a reader that knows a record up to the offset age.
+fn parse_to(bytes: &[u8], age: usize) -> Parsed
+    ensures { λ r. ⌜ parsedOutcome r ≡ ifWhole (now (bytes .entry)) parseRefused (parseTook (taken (now (bytes .entry))) (aged age (now (bytes .entry)))) ⌝ }
+{
+    match amount(bytes) {
+        Taken::Took(n) => {
+            let record = fields::record_to(bytes, lesser(n, age));
+            Parsed {
+                answer: Taken::Took(n),
+                record,
+            }
+        }
+        Taken::Refused(why) => refuse(why),
+    }
+}
+
+// Parses the record at the front of bytes.
+pub fn parse(bytes: &[u8]) -> Parsed
+    ensures { λ r. ⌜ parsedOutcome r ≡ parseOf (now (bytes .entry)) ⌝ }
+{
+    parse_to(bytes, 64)
+}
+
+// Parses the record at the front of bytes for a reader of an age.
+pub fn parse_aged(bytes: &[u8], age: Age) -> Parsed
+    ensures { λ r. ⌜ parsedOutcome r ≡ parseAged (age .0) (now (bytes .entry)) ⌝ }
+{
+    if age.is_age() {
+        parse_to(bytes, age.0 as usize)
+    } else {
+        refuse(Refusal::NotAnAge)
+    }
+}

@@ -1,0 +1,40 @@
+-- 01, "The record": the field table, and what a list of bytes says. Assumes nothing.
+use Prim.Native.Nat.{ℕ, _+_, _*_, _-_}
+use mathlib.Core.List.{List, [], _∷_}
+use mathlib.Core.Bool.{Bool, true, _&&_}
+use lib.ListN.{getD, take, drop}
+use lib.Dec.{eqb}
+
+-- where each of the fifteen fields starts, size first
+abbrev pub starts : List ℕ
+starts = 0 ∷ 4 ∷ 8 ∷ 12 ∷ 16 ∷ 20 ∷ 24 ∷ 28 ∷ 32 ∷ 36 ∷ 40 ∷ 48 ∷ 52 ∷ 53 ∷ 61 ∷ []
+
+-- where each ends, end not included
+abbrev pub ends : List ℕ
+ends = 4 ∷ 8 ∷ 12 ∷ 16 ∷ 20 ∷ 24 ∷ 28 ∷ 32 ∷ 36 ∷ 40 ∷ 48 ∷ 52 ∷ 53 ∷ 61 ∷ 64 ∷ []
+
+-- the start of field f
+abbrev pub startOf : ℕ → ℕ
+startOf f = getD starts f 0
+
+-- the end of field f
+abbrev pub endOf : ℕ → ℕ
+endOf f = getD ends f 0
+
+-- how many bytes field f has
+abbrev pub widthOf : ℕ → ℕ
+widthOf f = endOf f - startOf f
+
+-- n of the bytes s, from place a on
+abbrev pub part : List ℕ → ℕ → ℕ → List ℕ
+part s a n = take n (drop a s)
+
+-- the number of some bytes, little-endian
+abbrev pub le : List ℕ → ℕ
+le [] = 0
+le (b ∷ bs) = b + 256 * le bs
+
+-- whether bytes are all zero
+abbrev pub allZero : List ℕ → Bool
+allZero [] = true
+allZero (b ∷ bs) = eqb b 0 && allZero bs

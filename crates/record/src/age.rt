@@ -1,0 +1,76 @@
+// The ages of readers: where what a reader knows of a record ends.
+ghost use mathlib.Core.Path.{_≡_};
+ghost use lib.ListN.{getD};
+ghost use Rattle.record.specs.Ages.{ages, isAge};
+
+// An age: one of the twelve constants, or a number that is refused.
+pub struct Age(pub u32);
+
+impl Age {
+    pub const A16: Age = Age(16);
+
+    pub const A20: Age = Age(20);
+
+    pub const A24: Age = Age(24);
+
+    pub const A28: Age = Age(28);
+
+    pub const A32: Age = Age(32);
+
+    pub const A36: Age = Age(36);
+
+    pub const A40: Age = Age(40);
+
+    pub const A48: Age = Age(48);
+
+    pub const A52: Age = Age(52);
+
+    pub const A53: Age = Age(53);
+
+    pub const A61: Age = Age(61);
+
+    pub const A64: Age = Age(64);
+
+    // Whether the age is among the twelve.
+    pub fn is_age(self) -> bool
+        ensures { λ r. ⌜ r ≡ isAge (self .0) ⌝ }
+    {
+        let a = self.0;
+        match a {
+            16 => true,
+            20 => true,
+            24 => true,
+            28 => true,
+            32 => true,
+            36 => true,
+            40 => true,
+            48 => true,
+            52 => true,
+            53 => true,
+            61 => true,
+            64 => true,
+            _ => false,
+        }
+    }
+
+    // The age in a row of the twelve, counted from 0 by rising age, and 0, which is none, past the last.
+    pub fn nth(row: usize) -> Self
+        ensures { λ r. ⌜ r .0 ≡ getD ages row 0 ⌝ }
+    {
+        match row {
+            0 => Self::A16,
+            1 => Self::A20,
+            2 => Self::A24,
+            3 => Self::A28,
+            4 => Self::A32,
+            5 => Self::A36,
+            6 => Self::A40,
+            7 => Self::A48,
+            8 => Self::A52,
+            9 => Self::A53,
+            10 => Self::A61,
+            11 => Self::A64,
+            _ => Age(0),
+        }
+    }
+}
