@@ -26,6 +26,10 @@ unfolding putAt
 put-length o at [] = refl
 put-length o at (b ∷ w) = put-length (set o at b) (suc at) w ∙ length-set o at b
 
+-- a writer keeps the buffer's length
+pub put-same : {o : List ℕ} {at : ℕ} {w : List ℕ} {n : List ℕ} {r : ℕ} → Put o at w n r → length n ≡ length o
+put-same {o} {at} {w} p = ap length (p .holds) ∙ put-length o at w
+
 -- both of two words in a row
 reach-append : (n at : ℕ) (u v : List ℕ) → reach n at (u ++ v) ≡ reach n (reach n at u) v
 unfolding reach

@@ -6,3 +6,5 @@ pub mod Limits
 pub mod Whole
 pub mod OneOutcome
 pub mod Exactly
+pub mod TwoAges
+pub mod Examples

@@ -1,7 +1,7 @@
 -- The rule of reading as one limit: a field is read exactly when it ends within T, and at an age within the lesser of both.
 -- Assumes nothing.
 use Prim.Native.Nat.{ℕ, _≤_, _<_, max, min}
-use mathlib.Core.Path.{_≡_, refl, sym, ap, _∙_}
+use mathlib.Core.Path.{_≡_, sym, _∙_}
 use mathlib.Core.Bool.{Bool, true, false, cond, _&&_, _||_}
 use mathlib.Core.List.{List}
 use native.Mathlib.Omega.{arith}
@@ -9,7 +9,7 @@ use native.Mathlib.Decide.{decLe}
 use lib.Dec.{T, leb, ltb, leb→le, ltb→lt}
 use borrow.Author.Tests.{le-leb, lt-leb}
 use Rattle.record.specs.Table.{startOf, endOf}
-use Rattle.reading.specs.Reading.{reads, readsAt, recordBy, plain, aged, sizeOf, taken}
+use Rattle.reading.specs.Reading.{reads, recordBy, plain, aged, sizeOf, taken}
 use Rattle.reading.proofs.Rows.{in-row}
 use Rattle.reading.proofs.FieldBytes.{record-by}
 

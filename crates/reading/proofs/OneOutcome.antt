@@ -1,8 +1,10 @@
 -- Any two outcomes that a contract of this crate allows for the same input are one. Assumes nothing.
+use Prim.Native.Nat.{ℕ, min}
 use mathlib.Core.Path.{_≡_, sym, ap, _∙_}
 use Rattle.answers.specs.declared.Told.{Told}
 use Rattle.answers.specs.declared.Taken.{Taken}
 use Rattle.answers.specs.Tells.{takenTells}
+use Rattle.answers.proofs.OneOutcome.{one-answer}
 use Rattle.answers.proofs.OneToOne.{taken-one}
 use Rattle.record.specs.declared.ResTableConfig.{ResTableConfig}
 use Rattle.reading.specs.declared.Parsed.{Parsed}
@@ -20,3 +22,7 @@ one-parse r s p q =
 -- of `amount`: the answer is fixed
 pub one-amount : {t : Told} (r s : Taken) → takenTells r ≡ t → takenTells s ≡ t → r ≡ s
 one-amount r s p q = taken-one r s (p ∙ sym q)
+
+-- of `lesser`: the answer is its definition's value at the input
+pub one-lesser : (a b r s : ℕ) → r ≡ min a b → s ≡ min a b → r ≡ s
+one-lesser a b r s p q = one-answer (min a) b r s p q

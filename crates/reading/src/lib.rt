@@ -36,7 +36,7 @@ pub fn amount(bytes: &[u8]) -> Taken
 }
 
 // The lesser of two numbers.
-fn lesser(a: usize, b: usize) -> usize
+pub fn lesser(a: usize, b: usize) -> usize
     ensures { λ r. ⌜ r ≡ min a b ⌝ }
 {
     if a < b { a } else { b }

@@ -1,6 +1,6 @@
 -- The twelve ages: which numbers they are, and what holds of each. Assumes nothing.
 use Prim.Native.Nat.{ℕ, zero, suc, _≤_, _<_}
-use mathlib.Core.Path.{_≡_, refl, sym, _∙_}
+use mathlib.Core.Path.{_≡_, refl}
 use mathlib.Core.Bool.{Bool, true, false, _||_, _&&_}
 use mathlib.Core.List.{List, [], _∷_, List·Memᴰ, List·Memᴰ·head, List·Memᴰ·tail}
 use native.Mathlib.Omega.{arith}
@@ -20,7 +20,8 @@ no-yes e = let z : _≡_ {A = ℕ} 0 1 = cc in absurd (none z)
     none : _≡_ {A = ℕ} 0 1 → ⊥
     none z = omega arith
 
-by-first : (n a : ℕ) (l : List ℕ) (t : Bool) → eqb n a ≡ t → (among n l ≡ true → List·Memᴰ n l) → (t || among n l) ≡ true → List·Memᴰ n (a ∷ l)
+by-first : (n a : ℕ) (l : List ℕ) (t : Bool) → eqb n a ≡ t → (among n l ≡ true → List·Memᴰ n l) → (t || among n l) ≡ true
+    → List·Memᴰ n (a ∷ l)
 by-first n a l true p more e = List·Memᴰ·head (eqb-true n a p)
 by-first n a l false p more e = List·Memᴰ·tail (more e)
 

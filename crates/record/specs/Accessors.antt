@@ -18,11 +18,21 @@ mccMncOf r = record { mcc = r .imsi % 65536; mnc = r .imsi / 65536 }
 
 -- orientation, touchscreen and density, the parts of screen_type
 abbrev pub orientationTouchscreenDensityOf : ResTableConfig → OrientationTouchscreenDensity
-orientationTouchscreenDensityOf r = record { orientation = r .«screen_type» % 256; touchscreen = r .«screen_type» / 256 % 256; density = r .«screen_type» / 65536 }
+orientationTouchscreenDensityOf r =
+    record {
+      orientation = r .«screen_type» % 256;
+      touchscreen = r .«screen_type» / 256 % 256;
+      density = r .«screen_type» / 65536;
+    }
 
 -- keyboard, navigation and input flags, the three lower bytes of generic_purpose_field
 abbrev pub keyboardNavigationInputFlagsOf : ResTableConfig → KeyboardNavigationInputFlags
-keyboardNavigationInputFlagsOf r = record { keyboard = r .«generic_purpose_field» % 256; navigation = r .«generic_purpose_field» / 256 % 256; «input_flags» = r .«generic_purpose_field» / 65536 % 256 }
+keyboardNavigationInputFlagsOf r =
+    record {
+      keyboard = r .«generic_purpose_field» % 256;
+      navigation = r .«generic_purpose_field» / 256 % 256;
+      «input_flags» = r .«generic_purpose_field» / 65536 % 256;
+    }
 
 -- the three lower bytes of generic_purpose_field as one number
 abbrev pub inputOf : ResTableConfig → ℕ
@@ -42,15 +52,28 @@ sdkMinorVersionOf r = record { «sdk_version» = r .version % 65536; «minor_ver
 
 -- screen layout, UI mode and smallest width, the parts of screen_config
 abbrev pub screenLayoutUiSmallestWidthOf : ResTableConfig → ScreenLayoutUiSmallestWidth
-screenLayoutUiSmallestWidthOf r = record { «screen_layout» = r .«screen_config» % 256; «ui_mode» = r .«screen_config» / 256 % 256; «smallest_screen_width_dp» = r .«screen_config» / 65536 }
+screenLayoutUiSmallestWidthOf r =
+    record {
+      «screen_layout» = r .«screen_config» % 256;
+      «ui_mode» = r .«screen_config» / 256 % 256;
+      «smallest_screen_width_dp» = r .«screen_config» / 65536;
+    }
 
 -- width and height in dp, the halves of screen_size_dp
 abbrev pub screenWidthHeightDpOf : ResTableConfig → ScreenWidthHeightDp
-screenWidthHeightDpOf r = record { «screen_width_dp» = r .«screen_size_dp» % 65536; «screen_height_dp» = r .«screen_size_dp» / 65536 }
+screenWidthHeightDpOf r =
+    record {
+      «screen_width_dp» = r .«screen_size_dp» % 65536;
+      «screen_height_dp» = r .«screen_size_dp» / 65536;
+    }
 
 -- the second screen layout and the color mode, the two lower bytes of screen_config_2
 abbrev pub screenLayout2ColorModeOf : ResTableConfig → ScreenLayout2ColorMode
-screenLayout2ColorModeOf r = record { «screen_layout_2» = r .«screen_config_2» % 256; «color_mode» = r .«screen_config_2» / 256 % 256 }
+screenLayout2ColorModeOf r =
+    record {
+      «screen_layout_2» = r .«screen_config_2» % 256;
+      «color_mode» = r .«screen_config_2» / 256 % 256;
+    }
 
 -- the record with another screen_type
 abbrev pub withScreenType : ResTableConfig → ℕ → ResTableConfig

@@ -2,7 +2,9 @@
 use crate::ResTableConfig;
 use kinds::Density;
 ghost use mathlib.Core.Path.{_≡_};
-ghost use Rattle.record.specs.Accessors.{grammaticalInflectionOf, inputOf, keyboardNavigationInputFlagsOf, mccMncOf, orientationTouchscreenDensityOf, screenLayout2ColorModeOf, screenLayoutUiSmallestWidthOf, screenWidthHeightDpOf, screenWidthHeightOf, sdkMinorVersionOf, withDensity};
+ghost use Rattle.record.specs.Accessors.{grammaticalInflectionOf, inputOf, keyboardNavigationInputFlagsOf, mccMncOf};
+ghost use Rattle.record.specs.Accessors.{orientationTouchscreenDensityOf, screenLayout2ColorModeOf, screenLayoutUiSmallestWidthOf};
+ghost use Rattle.record.specs.Accessors.{screenWidthHeightDpOf, screenWidthHeightOf, sdkMinorVersionOf, withDensity};
 
 // What `imsi` holds.
 pub struct MccMnc {

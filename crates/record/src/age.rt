@@ -7,28 +7,40 @@ ghost use Rattle.record.specs.Ages.{ages, isAge};
 pub struct Age(pub u32);
 
 impl Age {
+    // The age that knows the fields up to `screen_type`.
     pub const A16: Age = Age(16);
 
+    // The age that knows the fields up to `generic_purpose_field`.
     pub const A20: Age = Age(20);
 
+    // The age that knows the fields up to `screen_size`.
     pub const A24: Age = Age(24);
 
+    // The age that knows the fields up to `version`.
     pub const A28: Age = Age(28);
 
+    // The age that knows the fields up to `screen_config`.
     pub const A32: Age = Age(32);
 
+    // The age that knows the fields up to `screen_size_dp`.
     pub const A36: Age = Age(36);
 
+    // The age that knows the fields up to `locale_script`.
     pub const A40: Age = Age(40);
 
+    // The age that knows the fields up to `locale_variant`.
     pub const A48: Age = Age(48);
 
+    // The age that knows the fields up to `screen_config_2`.
     pub const A52: Age = Age(52);
 
+    // The age that knows the fields up to `locale_script_was_computed`.
     pub const A53: Age = Age(53);
 
+    // The age that knows the fields up to `locale_numbering_system`.
     pub const A61: Age = Age(61);
 
+    // The age that knows the fields up to `end_padding`.
     pub const A64: Age = Age(64);
 
     // Whether the age is among the twelve.

@@ -1,0 +1,11 @@
+-- The unpacked region, put. Assumes nothing.
+use borrow.Author.Needs.{needs}
+use Rattle.locale.proofs.put_region.Statement.{statement}
+use Rattle.locale.proofs.put_region.Tie as tie
+
+pub put-region-spec : {M : Type 1} → statement M
+put-region-spec =
+    tie.close
+    (tie.spec
+    (λ c κs. search needs) (λ c κs. tt) (λ c. search needs)
+    (λ c. rw (← c .before .before .before .before .before .unpack-language-or-region .ensures) (c .before .before .put-four .ensures)))

@@ -1,0 +1,13 @@
+-- The locale is put where it is said. Assumes nothing.
+use borrow.Author.Tests.{eq-eqb, ne-eqb}
+use Rattle.buffer.proofs.Putting.{put-nil}
+use borrow.Author.Needs.{needs}
+use Rattle.locale.proofs.put_said.Statement.{statement}
+use Rattle.locale.proofs.put_said.Tie as tie
+
+pub put-said-spec : {M : Type 1} → statement M
+put-said-spec =
+    tie.close
+    (tie.spec
+    (λ c κs. tt) (λ c. rw (eq-eqb _ _ (c .if1 .taken)) put-nil) (λ c. search needs)
+    (λ c. rw (ne-eqb _ _ (c .before .before .before .before .if1 .left)) (c .before .before .put-locale .ensures)))

@@ -1,0 +1,11 @@
+-- The script stands behind a plus, where it was provided. Assumes nothing.
+use borrow.Author.Needs.{needs}
+use Rattle.locale.proofs.put_script.Statement.{statement}
+use Rattle.locale.proofs.put_script.Tie as tie
+
+pub put-script-spec : {M : Type 1} → statement M
+put-script-spec =
+    tie.close
+    (tie.spec
+    (λ c κs. tt) (λ c. search needs) (λ c κs. tt) (λ c. search needs)
+    (λ c. rw (← c .before .before .before .before .before .before .script-provided .ensures) (c .before .before .put-four-behind .ensures)))

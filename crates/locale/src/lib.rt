@@ -1,0 +1,234 @@
+// The locale of a record: language and region unpacked, and its words in the legacy and in the new format.
+use answers::Written;
+use buffer::put;
+use buffer::write;
+use record::ResTableConfig;
+use subtag::put_subtag;
+ghost use mathlib.Core.Path.{_≡_};
+ghost use mathlib.Core.Bool.{not, _||_};
+ghost use Prim.Native.Nat.{_≤_, _%_, _/_};
+ghost use lib.Dec.{eqb};
+ghost use Rattle.buffer.specs.Ascii.{ascii};
+ghost use Rattle.buffer.specs.Put.{Put};
+ghost use Rattle.buffer.specs.Written.{outcome, written};
+ghost use Rattle.subtag.specs.Subtag.{subtagOf};
+ghost use Rattle.locale.specs.Locale.{unpacked, languageOf, regionOf, language, region, begins, hasRegion, scriptProvided, behind, legacyWords, newWords, localeWords, localeSaid, localeText};
+
+// Two bytes unpacked to four, packed letters counted from base, which is at most 'a'.
+fn unpack_language_or_region(a: u8, b: u8, base: u8) -> [u8; 4]
+    requires { ⌜ base ≤ 97 ⌝ }
+    ensures { λ r. ⌜ r ≡ unpacked base a b ⌝ }
+{
+    if 128 <= a {
+        return [
+            b % 32 + base,
+            b / 32 + a % 4 * 8 + base,
+            a / 4 % 32 + base,
+            0,
+        ];
+    }
+    if a == 0 {
+        return [0; 4];
+    }
+    [a, b, 0, 0]
+}
+
+// Puts a subtag of four bytes.
+fn put_four(out: &mut [u8], at: usize, src: &[u8; 4]) -> usize
+    ensures { λ r. ⌜ Put (now (out .entry)) at (subtagOf (now (src .entry))) (now (out .exit)) r ⌝ }
+{
+    put_subtag(out, at, src)
+}
+
+// Puts a subtag of eight bytes.
+fn put_eight(out: &mut [u8], at: usize, src: &[u8; 8]) -> usize
+    ensures { λ r. ⌜ Put (now (out .entry)) at (subtagOf (now (src .entry))) (now (out .exit)) r ⌝ }
+{
+    put_subtag(out, at, src)
+}
+
+// Puts a language of two bytes. Machinery, as all that is called `put`: it refuses nothing.
+pub fn put_language(out: &mut [u8], at: usize, a: u8, b: u8) -> usize
+    ensures { λ r. ⌜ Put (now (out .entry)) at (languageOf a b) (now (out .exit)) r ⌝ }
+{
+    let unpacked = unpack_language_or_region(a, b, b'a');
+    put_four(out, at, &unpacked)
+}
+
+// Puts a region of two bytes.
+pub fn put_region(out: &mut [u8], at: usize, a: u8, b: u8) -> usize
+    ensures { λ r. ⌜ Put (now (out .entry)) at (regionOf a b) (now (out .exit)) r ⌝ }
+{
+    let unpacked = unpack_language_or_region(a, b, b'0');
+    put_four(out, at, &unpacked)
+}
+
+// The record's language, put.
+fn put_own_language(out: &mut [u8], at: usize, r: ResTableConfig) -> usize
+    ensures { λ n. ⌜ Put (now (out .entry)) at (language r) (now (out .exit)) n ⌝ }
+{
+    let locale = r.locale;
+    put_language(out, at, (locale % 256) as u8, (locale / 256 % 256) as u8)
+}
+
+// The record's region behind its sign, where there is one.
+fn put_own_region(out: &mut [u8], at: usize, sign: &[u8], r: ResTableConfig) -> usize
+    ensures { λ n. ⌜ Put (now (out .entry)) at (behind (hasRegion r) (now (sign .entry)) (region r)) (now (out .exit)) n ⌝ }
+{
+    let locale = r.locale;
+    if locale / 65536 % 256 == 0 {
+        return at;
+    }
+    let a = put(out, at, sign);
+    put_region(
+        out,
+        a,
+        (locale / 65536 % 256) as u8,
+        (locale / 16777216) as u8,
+    )
+}
+
+// Four bytes behind a sign, where they are there.
+fn put_four_behind(out: &mut [u8], at: usize, there: bool, sign: &[u8], src: &[u8; 4]) -> usize
+    ensures { λ n. ⌜ Put (now (out .entry)) at (behind there (now (sign .entry)) (subtagOf (now (src .entry)))) (now (out .exit)) n ⌝ }
+{
+    if there {
+        let a = put(out, at, sign);
+        put_subtag(out, a, src)
+    } else {
+        at
+    }
+}
+
+// Eight bytes behind a sign, where they are there.
+fn put_eight_behind(out: &mut [u8], at: usize, there: bool, sign: &[u8], src: &[u8; 8]) -> usize
+    ensures { λ n. ⌜ Put (now (out .entry)) at (behind there (now (sign .entry)) (subtagOf (now (src .entry)))) (now (out .exit)) n ⌝ }
+{
+    if there {
+        let a = put(out, at, sign);
+        put_subtag(out, a, src)
+    } else {
+        at
+    }
+}
+
+// Whether a script was provided.
+fn script_provided(r: ResTableConfig) -> bool
+    ensures { λ b. ⌜ b ≡ scriptProvided r ⌝ }
+{
+    let script = r.locale_script;
+    if script[0] == 0 {
+        return false;
+    }
+    !r.locale_script_was_computed
+}
+
+// Whether eight bytes begin with one that isn't 0.
+fn eight_begin(src: [u8; 8]) -> bool
+    ensures { λ b. ⌜ b ≡ begins src ⌝ }
+{
+    src[0] != 0
+}
+
+// Puts the legacy format.
+fn put_legacy(out: &mut [u8], at: usize, r: ResTableConfig) -> usize
+    ensures { λ n. ⌜ Put (now (out .entry)) at (legacyWords r) (now (out .exit)) n ⌝ }
+{
+    let a = put_own_language(out, at, r);
+    put_own_region(out, a, b"-r", r)
+}
+
+// The record's script behind a plus, where it was provided.
+fn put_script(out: &mut [u8], at: usize, r: ResTableConfig) -> usize
+    ensures { λ n. ⌜ Put (now (out .entry)) at (behind (scriptProvided r) (ascii "+") (subtagOf (r .«locale_script»))) (now (out .exit)) n ⌝ }
+{
+    let script = r.locale_script;
+    let there = script_provided(r);
+    put_four_behind(out, at, there, b"+", &script)
+}
+
+// Eight bytes behind a sign, where they begin with one that isn't 0.
+fn put_begun(out: &mut [u8], at: usize, sign: &[u8], src: [u8; 8]) -> usize
+    ensures { λ n. ⌜ Put (now (out .entry)) at (behind (begins src) (now (sign .entry)) (subtagOf src)) (now (out .exit)) n ⌝ }
+{
+    let there = eight_begin(src);
+    put_eight_behind(out, at, there, sign, &src)
+}
+
+// Puts the new format.
+fn put_new(out: &mut [u8], at: usize, r: ResTableConfig) -> usize
+    ensures { λ n. ⌜ Put (now (out .entry)) at (newWords r) (now (out .exit)) n ⌝ }
+{
+    let variant = r.locale_variant;
+    let numbering = r.locale_numbering_system;
+    let a = put(out, at, b"b+");
+    let b = put_own_language(out, a, r);
+    let c = put_script(out, b, r);
+    let d = put_own_region(out, c, b"+", r);
+    let e = put_begun(out, d, b"+", variant);
+    put_begun(out, e, b"+u+nu+", numbering)
+}
+
+// Whether the new format is called for.
+fn is_new(r: ResTableConfig) -> bool
+    ensures { λ b. ⌜ b ≡ (scriptProvided r || begins (r .«locale_variant») || begins (r .«locale_numbering_system»)) ⌝ }
+{
+    if script_provided(r) {
+        return true;
+    }
+    let variant = r.locale_variant;
+    if eight_begin(variant) {
+        return true;
+    }
+    let numbering = r.locale_numbering_system;
+    eight_begin(numbering)
+}
+
+// Puts the words of a record's locale, whether or not they are said.
+pub fn put_locale(out: &mut [u8], at: usize, r: ResTableConfig) -> usize
+    ensures { λ n. ⌜ Put (now (out .entry)) at (localeWords r) (now (out .exit)) n ⌝ }
+{
+    if is_new(r) {
+        put_new(out, at, r)
+    } else {
+        put_legacy(out, at, r)
+    }
+}
+
+// Writes a language of two bytes; where out is shorter, it is left as it is.
+pub fn write_language(out: &mut [u8], a: u8, b: u8) -> Written
+    ensures { λ r. ⌜ outcome r (now (out .exit)) ≡ written (languageOf a b) (now (out .entry)) ⌝ }
+{
+    let mut own = [0u8; 9];
+    let n = put_language(&mut own, 0, a, b);
+    write(out, &own[..n])
+}
+
+// Writes a region of two bytes; where out is shorter, it is left as it is.
+pub fn write_region(out: &mut [u8], a: u8, b: u8) -> Written
+    ensures { λ r. ⌜ outcome r (now (out .exit)) ≡ written (regionOf a b) (now (out .entry)) ⌝ }
+{
+    let mut own = [0u8; 4];
+    let n = put_region(&mut own, 0, a, b);
+    write(out, &own[..n])
+}
+
+// Puts the words of a record's locale where they are said.
+fn put_said(out: &mut [u8], at: usize, r: ResTableConfig) -> usize
+    ensures { λ n. ⌜ Put (now (out .entry)) at (localeText r) (now (out .exit)) n ⌝ }
+{
+    if r.locale % 256 == 0 {
+        at
+    } else {
+        put_locale(out, at, r)
+    }
+}
+
+// Writes what a record's locale says, as 000 appends it to an empty text; where out is shorter, it is left as it is.
+pub fn write_locale(out: &mut [u8], r: ResTableConfig) -> Written
+    ensures { λ n. ⌜ outcome n (now (out .exit)) ≡ written (localeText r) (now (out .entry)) ⌝ }
+{
+    let mut own = [0u8; 84];
+    let n = put_said(&mut own, 0, r);
+    write(out, &own[..n])
+}

@@ -1,0 +1,63 @@
+-- Bytes that are all zero, one by one and by their places. Assumes nothing.
+use Prim.Native.Nat.{ℕ, zero, suc, _+_, _-_, _≤_, _<_, min}
+use mathlib.Core.Path.{_≡_, refl, sym, ap, _∙_}
+use mathlib.Core.Bool.{Bool, true, false, _&&_, true≢false}
+use mathlib.Core.List.{List, [], _∷_}
+use native.Mathlib.Nat.{sub-zero, zero-sub, suc-sub-suc}
+use native.Mathlib.Numerals.{add-one}
+use native.Mathlib.Omega.{arith}
+use lib.Dec.{eqb}
+use lib.ListN.{length, getD, take, drop, length-take, drop-of-length-le}
+use lib.Seq.{drop-cons, take-nil, getD-take}
+use borrow.Author.Tests.{eq-eqb, ne-eqb, eqb-true, eqb-false}
+use Rattle.record.specs.Table.{part, allZero}
+
+-- the part from a on of the first t bytes
+pub drop-take : (a t : ℕ) (s : List ℕ) → drop a (take t s) ≡ part s a (t - a)
+drop-take zero t s = ap (λ (n : ℕ). take n s) (sym (sub-zero t))
+drop-take (suc a) zero s = sym (ap (part s (suc a)) (zero-sub (suc a)))
+drop-take (suc a) (suc t) [] = sym (take-nil (suc t - suc a))
+drop-take (suc a) (suc t) (x ∷ s) = drop-take a t s ∙ ap (part s a) (sym (suc-sub-suc t a))
+
+-- the search for a byte that isn't zero: at place i, and past the last
+module _ (s : List ℕ) (n i : ℕ) where
+  front : i < min n (length s) → drop i (take n s) ≡ getD s i 0 ∷ drop (i + 1) (take n s)
+  front h =
+      let l : i < length (take n s) = omega (arith, length-take n s) in
+      let k : i < n = omega arith in
+      rw (drop-cons (take n s) i 0 l, getD-take n s i 0 k, add-one)
+
+  pub zero-here : i < min n (length s) → getD s i 0 ≡ 0 → allZero (drop i (take n s)) ≡ allZero (drop (i + 1) (take n s))
+  zero-here h e = rw (front h, eq-eqb (getD s i 0) 0 e)
+
+  pub found-here : i < min n (length s) → (getD s i 0 ≡ 0 → ⊥) → allZero (drop i (take n s)) ≡ false
+  found-here h e = rw (front h, ne-eqb (getD s i 0) 0 e)
+
+  pub none-left : min n (length s) ≤ i → allZero (drop i (take n s)) ≡ true
+  none-left h = let l : length (take n s) ≤ i = omega (arith, length-take n s) in rw (drop-of-length-le (take n s) l)
+
+-- a byte that isn't zero
+pub record Found (l : List ℕ) : Type 0 where
+  pub place : ℕ
+  pub inside : place < length l
+  pub found : getD l place 0 ≡ 0 → ⊥
+
+found-by : (x : ℕ) (l : List ℕ) (b : Bool) → eqb x 0 ≡ b → (allZero l ≡ false → Found l) → b && allZero l ≡ false → Found (x ∷ l)
+found-by x l true p more e =
+    let m = more e in record { place = m .place + 1; inside = omega (arith, m .inside); found = rw (add-one (m .place)) (m .found) }
+found-by x l false p more e = record { place = 0; inside = omega arith; found = eqb-false x 0 p }
+
+-- bytes that aren't all zero have one that isn't
+pub some-found : (l : List ℕ) → allZero l ≡ false → Found l
+some-found [] e = absurd (true≢false e)
+some-found (x ∷ l) e = found-by x l (eqb x 0) refl (some-found l) e
+
+both-true : (x : ℕ) (b : Bool) (u : Bool) → eqb x 0 ≡ b → b && u ≡ true → (x ≡ 0) × (u ≡ true)
+both-true x true u p e = (eqb-true x 0 p, e)
+both-true x false u p e = absurd (true≢false (sym e))
+
+-- and bytes that are all zero have none
+pub each-zero : (l : List ℕ) → allZero l ≡ true → (i : ℕ) → getD l i 0 ≡ 0
+each-zero [] e i = refl
+each-zero (x ∷ l) e zero = both-true x (eqb x 0) (allZero l) refl e .0
+each-zero (x ∷ l) e (suc i) = each-zero l (both-true x (eqb x 0) (allZero l) refl e .1) i

@@ -1,0 +1,47 @@
+-- 3, then the refusals of `amount`, then what the bytes say. Assumes nothing.
+use mathlib.Core.Path.{sym, ap, _∙_}
+use mathlib.Core.Bool.{true, false}
+use borrow.Author.Needs.{needs}
+use borrow.Author.Tests.{not-true, not-false}
+use denote.Ref.{now}
+use Rattle.answers.specs.Tells.{takenTells}
+use Rattle.reading.proofs.Whole.{age-unknown}
+use Rattle.marking.proofs.Answering.{refuses, held-said}
+use Rattle.marking.proofs.held_back.Statement.{statement}
+use Rattle.marking.proofs.held_back.Tie as tie
+
+returns : tie.Need-returns
+returns c = sym (age-unknown _ _ _ (sym (not-true _ (c .if1 .taken)) ∙ c .before .is-age .ensures))
+
+returns-2 : tie.Need-returns-2
+returns-2 c =
+    let s = now (c .before .before .before .before .before .before .before .before .before .before .args .bytes) in
+    let n = c .before .before .before .before .n .given in
+    held-said _ s (n .0 .0) true
+    (sym (not-false _ (c .before .before .before .before .before .before .before .if1 .left)) ∙ c .before .before .before .before .before .before .before .before .is-age .ensures)
+    (sym (ap takenTells (n .1)) ∙ c .before .before .before .before .before .before .amount .ensures)
+    (sym (c .if2 .taken) ∙ c .before .late-bytes .ensures)
+
+returns-3 : tie.Need-returns-3
+returns-3 c =
+    let s = now (c .before .before .before .before .before .before .before .before .before .before .args .bytes) in
+    let n = c .before .before .before .before .n .given in
+    held-said _ s (n .0 .0) false
+    (sym (not-false _ (c .before .before .before .before .before .before .before .if1 .left)) ∙ c .before .before .before .before .before .before .before .before .is-age .ensures)
+    (sym (ap takenTells (n .1)) ∙ c .before .before .before .before .before .before .amount .ensures)
+    (sym (c .if2 .left) ∙ c .before .late-bytes .ensures)
+
+returns-4 : tie.Need-returns-4
+returns-4 c =
+    let s = now (c .before .before .before .before .before .before .before .args .bytes) in
+    let w = c .before .why .given in
+    sym (refuses _ s _ _
+    (sym (not-false _ (c .before .before .before .before .if1 .left)) ∙ c .before .before .before .before .before .is-age .ensures)
+    (w .0 .0) (sym (ap takenTells (w .1)) ∙ c .before .before .before .amount .ensures))
+
+pub held-back-spec : {M : Type 1} → statement M
+held-back-spec =
+    tie.close
+    (tie.spec
+    (λ c κs. tt) returns (λ c κs. tt) (λ c. search needs) (λ c. search needs) (λ c κs. tt) (λ c. search needs)
+    returns-2 returns-3 returns-4)

@@ -1,0 +1,55 @@
+-- 01, "Ages, marks, runs": the fourteen marks, and which records are held back. Assumes nothing.
+use Prim.Native.Nat.{ℕ}
+use Prim.Native.String.{String}
+use mathlib.Core.List.{List, [], _∷_, map}
+use mathlib.Core.Bool.{Bool, not, cond}
+use lib.Dec.{ltb}
+use lib.ListN.{getD, take, drop}
+use Rattle.answers.specs.declared.Told.{Told}
+use Rattle.answers.specs.Numbers.{numberOf}
+use Rattle.answers.specs.Tells.{success, refusal}
+use Rattle.buffer.specs.Ascii.{ascii}
+use Rattle.buffer.specs.Written.{Outcome, written, refused}
+use Rattle.record.specs.Table.{startOf, endOf, widthOf, part, allZero}
+use Rattle.reading.specs.Reading.{reads, sizeOf, taken, ifWhole, ifAge}
+use Rattle.marking.specs.declared.Held.{Held}
+
+-- a letter's byte
+abbrev pub letter : String → ℕ
+letter w = getD (ascii w) 0 0
+
+-- the mark of field f of the record at the front of s, for a reader of age a: U when its end is past a; else A when the record
+-- doesn't hold it; else B when its bytes are all zero; else F
+unfoldable pub markOf : ℕ → List ℕ → ℕ → ℕ
+markOf a s f =
+    cond (ltb a (endOf f)) (letter "U")
+    (cond (not (reads (sizeOf s) f)) (letter "A")
+    (cond (allZero (part s (startOf f) (widthOf f))) (letter "B") (letter "F")))
+
+-- the marks of the fourteen fields after size, in field order
+unfoldable pub marksOf : ℕ → List ℕ → List ℕ
+marksOf a s = map (markOf a s) (1 ∷ 2 ∷ 3 ∷ 4 ∷ 5 ∷ 6 ∷ 7 ∷ 8 ∷ 9 ∷ 10 ∷ 11 ∷ 12 ∷ 13 ∷ 14 ∷ [])
+
+-- writing the marks: 3, 1, 2, then 5
+abbrev pub marksOutcome : ℕ → List ℕ → List ℕ → Outcome
+marksOutcome a s old = ifAge a (λ why. refused why old) (ifWhole s (λ why. refused why old) (written (marksOf a s) old))
+
+-- whether one of the first n bytes of s at offset a or later isn't zero
+abbrev pub lateBytes : List ℕ → ℕ → ℕ → Bool
+lateBytes s n a = not (allZero (drop a (take n s)))
+
+-- a record is held back exactly when one of its T bytes at offset a or later isn't zero
+unfoldable pub heldBack : ℕ → List ℕ → Bool
+heldBack a s = lateBytes s (taken s) a
+
+-- what the answer whether a record is held back tells: a refusal's number; else 0, and 1 for yes or 0 for no as its amount
+abbrev pub heldTells : Held → Told
+heldTells Held.No = success 0
+heldTells Held.Yes = success 1
+heldTells (Held.Refused why) = refusal (numberOf why)
+
+-- asking whether a record is held back: 3, 1, 2, then yes or no
+abbrev pub heldOf : ℕ → List ℕ → Told
+heldOf a s =
+    ifAge a (λ why. refusal (numberOf why))
+    (ifWhole s (λ why. refusal (numberOf why)) (success (cond (heldBack a s) 1 0)))

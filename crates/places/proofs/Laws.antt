@@ -1,0 +1,61 @@
+-- Laws of said places. Assumes nothing.
+use Prim.Native.Nat.{ℕ, zero, suc, _+_, _<_, _≤_}
+use mathlib.Core.Path.{_≡_, refl, sym, ap, _∙_}
+use mathlib.Core.Bool.{Bool, true, false, cond, not}
+use mathlib.Core.List.{List, [], _∷_, _++_}
+use native.Mathlib.Omega.{arith}
+use lib.Dec.{ltb, eqb}
+use lib.ListN.{length}
+use borrow.Author.Tests.{lt-ltb, eq-eqb, ne-eqb}
+use Rattle.buffer.specs.Ascii.{ascii}
+use Rattle.buffer.specs.Put.{Put}
+use Rattle.buffer.proofs.Putting.{put-put, put-nil, put-same, put-past, put-stays, put-moves}
+use Rattle.places.specs.Say.{say, dashAfter, Place, sayAll, Says}
+use Rattle.places.specs.Places.{some}
+
+-- the dash that place at asks for, and then the words
+joined : (base t : List ℕ) {o : List ℕ} {at : ℕ} {m : List ℕ} {a : ℕ} {w : List ℕ} {n : List ℕ} {r : ℕ}
+    → Put base 0 t o at → Put o at (cond (ltb 0 at) (ascii "-") []) m a → Put m a w n r → Put base 0 (t ++ dashAfter t ++ w) n r
+unfolding dashAfter
+joined base [] p d q = rw (put-stays p) at (put-put (put-put p d) q)
+joined [] (b ∷ t) p d q = put-past _ (omega arith) (put-put (put-put p d) q)
+joined (x ∷ base) (b ∷ t) {at = at} p d q = rw (lt-ltb 0 at (put-moves (omega arith) p)) at (put-put (put-put p d) q)
+
+-- a place that is said: the dash, and then the words
+pub place-said : {o : List ℕ} {at : ℕ} {said : Bool} {m : List ℕ} {a : ℕ} {w : List ℕ} {n : List ℕ} {r : ℕ}
+    → said ≡ true → Put o at (cond (ltb 0 at) (ascii "-") []) m a → Put m a w n r → Says o at ((said, w) ∷ []) n r
+unfolding sayAll say
+place-said e d q = record { keeps = put-same q ∙ put-same d; goes = λ base t p. rw e (joined base t p d q) }
+
+-- one that is not
+pub place-silent : {o : List ℕ} {at : ℕ} {said : Bool} (w : List ℕ) → said ≡ false → Says o at ((said, w) ∷ []) o at
+unfolding sayAll say
+place-silent w e = record { keeps = refl; goes = λ base t p. rw e p }
+
+-- a number that isn't 0 is said, and one that is 0 is not
+pub some-said : (n : ℕ) → (n ≡ 0 → ⊥) → some n ≡ true
+some-said n h = rw (ne-eqb n 0 h)
+
+pub none-said : (n : ℕ) → n ≡ 0 → some n ≡ false
+none-said n h = rw (eq-eqb n 0 h)
+
+-- places after a place
+pub says-more : {o : List ℕ} {at : ℕ} {p : Place} {m : List ℕ} {a : ℕ} {ps : List Place} {n : List ℕ} {r : ℕ}
+    → Says o at (p ∷ []) m a → Says m a ps n r → Says o at (p ∷ ps) n r
+unfolding sayAll
+says-more {p = p} f g = record { keeps = g .keeps ∙ f .keeps; goes = λ base t h. g .goes base (say t (p .0) (p .1)) (f .goes base t h) }
+
+all-append : (t : List ℕ) (ps qs : List Place) → sayAll t (ps ++ qs) ≡ sayAll (sayAll t ps) qs
+unfolding sayAll
+all-append t [] qs = refl
+all-append t (p ∷ ps) qs = all-append (say t (p .0) (p .1)) ps qs
+
+-- and places after places
+pub says-both : {o : List ℕ} {at : ℕ} {ps : List Place} {m : List ℕ} {a : ℕ} {qs : List Place} {n : List ℕ} {r : ℕ}
+    → Says o at ps m a → Says m a qs n r → Says o at (ps ++ qs) n r
+says-both {ps = ps} {qs = qs} f g =
+    record { keeps = g .keeps ∙ f .keeps; goes = λ base t h. rw all-append (g .goes base (sayAll t ps) (f .goes base t h)) }
+
+-- all the places, from an empty text on
+pub said-all : {o : List ℕ} {ps : List Place} {n : List ℕ} {r : ℕ} → Says o 0 ps n r → Put o 0 (sayAll [] ps) n r
+said-all {o} f = f .goes o [] put-nil

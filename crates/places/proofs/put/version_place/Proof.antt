@@ -1,0 +1,14 @@
+-- The version is put where the word is not 0. Assumes nothing.
+use Rattle.places.proofs.Laws.{place-said, place-silent, some-said, none-said}
+use Rattle.buffer.proofs.Putting.{put-put}
+use borrow.Author.Needs.{needs}
+use Rattle.places.proofs.put.version_place.Statement.{statement}
+use Rattle.places.proofs.put.version_place.Tie as tie
+
+pub version-place-spec : {M : Type 1} → statement M
+version-place-spec =
+    tie.close
+    (tie.spec
+    (λ c. place-silent _ (none-said _ (c .if1 .taken))) (λ c κs. tt) (λ c κs. tt) (λ c. search needs) (λ c. search needs)
+    (λ c κs. tt) (λ c κs. tt) (λ c. search needs)
+    (λ c. place-said (some-said _ (c .before .before .before .before .before .before .before .before .before .before .before .before .before .before .before .if1 .left)) (c .before .before .before .before .before .before .before .before .before .before .before .before .dash .ensures) (rw (c .before .before .before .before .before .before .before .before .before .before .before .before .before .before .get-sdk-minor-version .ensures) at (put-put (c .before .before .before .before .before .before .put-label .ensures) (c .before .before .put-minor .ensures)))))

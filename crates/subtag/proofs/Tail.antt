@@ -1,0 +1,125 @@
+-- A NUL at the end stands by itself: so a subtag with one is no longer than the replaced rest. Assumes nothing.
+use Prim.Native.Nat.{ℕ, zero, suc, _+_, _-_, _*_, _≤_, _<_}
+use mathlib.Core.Path.{_≡_, refl, sym, ap, _∙_, subst}
+use mathlib.Core.Bool.{Bool, true, false, cond, _&&_}
+use mathlib.Core.List.{List, [], _∷_, _++_, append-assoc}
+use mathlib.Core.Option.{Option, none, some}
+use native.Mathlib.Omega.{arith}
+use native.Mathlib.Decide.{decLt}
+use lib.Dec.{ltb, eqb, lit≤}
+use lib.ListN.{length, getD, take, drop, length-append, length-drop, List·getD-append}
+use lib.Seq.{take-append-le, drop-append-le, length-take-le}
+use borrow.Author.Tests.{lt-ltb, le-ltb, le-leb, lt-leb}
+use Rattle.subtag.specs.declared.utf8.Front.{Front}
+use Rattle.subtag.specs.Utf8.{table, rowOf, within, okAt, matched, judge, frontOf}
+use Rattle.subtag.specs.Subtag.{pieceOf, sizeOf, replaced, replacedBy, keep, dropNuls, subtagOf}
+use Rattle.subtag.proofs.Laws.{size-one, size-in, replaced-more, replaced-none}
+use Rattle.subtag.proofs.Nuls.{nul-last}
+
+and-false : (t : Bool) → (t && false) ≡ false
+and-false true = refl
+and-false false = refl
+
+padded : (l : List ℕ) (i : ℕ) → length l ≤ i → getD (l ++ 0 ∷ []) i 0 ≡ 0
+padded [] zero h = refl
+padded [] (suc i) h = refl
+padded (b ∷ l) zero h = absurd (omega arith)
+padded (b ∷ l) (suc i) h = padded l i (omega arith)
+
+ok-nul : (l : List ℕ) (i lo hi : ℕ) → 1 ≤ lo → okAt (l ++ 0 ∷ []) i lo hi ≡ okAt l i lo hi
+unfolding okAt
+ok-nul l i lo hi h =
+    elim (decLt i (length l)) [
+      | yes k ↦ let e = length-append l (0 ∷ []) in
+          simp (lt-ltb i (length (l ++ 0 ∷ [])) (omega arith), lt-ltb i (length l) k, List·getD-append l (0 ∷ []) 0 i k)
+      | no k ↦ simp (padded l i (omega arith), le-ltb i (length l) (omega arith), lt-leb lo 0 (omega arith), le-leb 0 hi (omega arith), and-false)
+    ]
+
+-- ranges that 0 is in none of
+abbrev High : List (ℕ × ℕ) → Type 0
+High [] = Unit {0}
+High (r ∷ rs) = (1 ≤ r .0) × High rs
+
+matched-nul : (rs : List (ℕ × ℕ)) (l : List ℕ) (i : ℕ) → High rs → matched rs (l ++ 0 ∷ []) i ≡ matched rs l i
+matched-nul [] l i h = refl
+matched-nul (r ∷ rs) l i h = rw (ok-nul l i (r .0) (r .1) (h .0), matched-nul rs l (suc i) (h .1))
+
+abbrev HighRow : Option (List (ℕ × ℕ)) → Type 0
+HighRow none = Unit {0}
+HighRow (some rs) = High rs
+
+abbrev HighRows : List (ℕ × ℕ × List (ℕ × ℕ)) → Type 0
+HighRows [] = Unit {0}
+HighRows (r ∷ rs) = High (r .2) × HighRows rs
+
+row-high : (t : List (ℕ × ℕ × List (ℕ × ℕ))) (b : ℕ) → HighRows t → HighRow (rowOf t b)
+row-high [] b h = tt
+row-high (r ∷ rs) b h = either (within (r .0) (r .1) b) (some (r .2)) (rowOf rs b) (h .0) (row-high rs b (h .1)) where
+  either : (t : Bool) (x y : Option (List (ℕ × ℕ))) → HighRow x → HighRow y → HighRow (cond t x y)
+  either true x y p q = p
+  either false x y p q = q
+
+table-high : HighRows table
+table-high = (
+  tt,
+  (
+    (lit≤ tt, tt),
+    (
+      (lit≤ tt, (lit≤ tt, tt)),
+      (
+        (lit≤ tt, (lit≤ tt, tt)),
+        (
+          (lit≤ tt, (lit≤ tt, tt)),
+          (
+            (lit≤ tt, (lit≤ tt, tt)),
+            (
+              (lit≤ tt, (lit≤ tt, (lit≤ tt, tt))),
+              ((lit≤ tt, (lit≤ tt, (lit≤ tt, tt))), ((lit≤ tt, (lit≤ tt, (lit≤ tt, tt))), tt)),
+            ),
+          ),
+        ),
+      ),
+    ),
+  ),
+)
+
+judge-nul : (o : Option (List (ℕ × ℕ))) (l : List ℕ) → HighRow o → judge o (l ++ 0 ∷ []) ≡ judge o l
+judge-nul none l h = refl
+judge-nul (some rs) l h = rw (matched-nul rs l 1 h)
+
+front-nul : (l : List ℕ) → 0 < length l → frontOf (l ++ 0 ∷ []) ≡ frontOf l
+unfolding frontOf
+front-nul l h = rw (List·getD-append l (0 ∷ []) 0 0 h) (judge-nul (rowOf table (getD l 0 0)) l (row-high table (getD l 0 0) table-high))
+
+piece-nul : (f : Front) (l : List ℕ) → sizeOf f ≤ length l → pieceOf f (l ++ 0 ∷ []) ≡ pieceOf f l
+piece-nul (Front.WellFormed n) l h = take-append-le n l (0 ∷ []) h
+piece-nul (Front.IllFormed n) l h = refl
+
+alone : replaced (0 ∷ []) ≡ replaced [] ++ 0 ∷ []
+unfolding replaced replacedBy frontOf okAt
+alone = refl
+
+nul-by : (k : ℕ) (l : List ℕ) → length l ≤ k → replaced (l ++ 0 ∷ []) ≡ replaced l ++ 0 ∷ []
+nul-by zero [] h = alone
+nul-by zero (b ∷ l) h = absurd (omega arith)
+nul-by (suc k) [] h = alone
+nul-by (suc k) (b ∷ l) h =
+    let s = b ∷ l in
+    let p : 0 < length s = omega arith in
+    let n = sizeOf (frontOf s) in
+    let least = size-one s p in
+    let most = size-in s p in
+    let e = length-drop n s in
+    let q : 0 < length (s ++ 0 ∷ []) = omega (arith, length-append s (0 ∷ [])) in
+    replaced-more (s ++ 0 ∷ []) q
+    ∙ ap (λ (f : Front). pieceOf f (s ++ 0 ∷ []) ++ replaced (drop (sizeOf f) (s ++ 0 ∷ []))) (front-nul s p)
+    ∙ ap (λ (x : List ℕ). x ++ replaced (drop n (s ++ 0 ∷ []))) (piece-nul (frontOf s) s most)
+    ∙ ap (λ (x : List ℕ). pieceOf (frontOf s) s ++ replaced x) (drop-append-le n s (0 ∷ []) most)
+    ∙ ap (λ (x : List ℕ). pieceOf (frontOf s) s ++ x) (nul-by k (drop n s) (omega arith))
+    ∙ sym (append-assoc (pieceOf (frontOf s) s) (replaced (drop n s)) (0 ∷ []))
+    ∙ ap (λ (x : List ℕ). x ++ 0 ∷ []) (sym (replaced-more s p))
+
+-- a NUL at the end of a subtag changes nothing
+pub subtag-nul : (l : List ℕ) → subtagOf (l ++ 0 ∷ []) ≡ subtagOf l
+unfolding subtagOf
+subtag-nul l = ap dropNuls (nul-by (length l) l (omega arith)) ∙ nul-last (replaced l)

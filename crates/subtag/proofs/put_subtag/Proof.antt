@@ -1,0 +1,17 @@
+-- `put_subtag` puts what is left without the NULs at the end. Assumes nothing.
+use mathlib.Core.Path.{sym, _∙_, ap}
+use borrow.Author.Needs.{needs}
+use lib.Seq.{length-take-le}
+use Rattle.subtag.specs.Subtag.{replaced}
+use Rattle.subtag.proofs.Strip.{subtag-is}
+use Rattle.subtag.proofs.put_subtag.Statement.{statement}
+use Rattle.subtag.proofs.put_subtag.Tie as tie
+
+pub put-subtag-spec : {M : Type 1} → statement M
+put-subtag-spec =
+    tie.close
+    (tie.spec
+    (λ c κs. tt)
+    (λ c. sym (length-take-le _ _ (c .before .before .trim .ensures .0)))
+    (λ c κs. tt) (λ c. search needs)
+    (λ c. rw (subtag-is _, ← c .before .before .before .before .before .trim .ensures .1) (c .before .before .put-replaced .ensures)))

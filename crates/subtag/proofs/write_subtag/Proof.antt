@@ -1,0 +1,45 @@
+-- `write_subtag` writes all of the subtag, or refuses. Assumes nothing.
+use Prim.Native.Nat.{ℕ}
+use mathlib.Core.Path.{_≡_, sym, _∙_}
+use mathlib.Core.Bool.{Bool, true, false}
+use mathlib.Core.List.{List}
+use borrow.Author.Needs.{needs}
+use borrow.Author.Tests.{leb-true, leb-false}
+use lib.Dec.{leb}
+use lib.ListN.{length, take}
+use lib.Seq.{length-take-le}
+use Rattle.answers.specs.declared.Written.{Written}
+use Rattle.answers.specs.declared.Refusal.{Refusal}
+use Rattle.buffer.specs.Put.{Put}
+use Rattle.buffer.specs.Written.{outcome, written}
+use Rattle.buffer.proofs.Putting.{front-ends}
+use Rattle.buffer.proofs.Writing.{put-written, written-short}
+use Rattle.subtag.specs.Subtag.{replaced, dropNuls, subtagOf}
+use Rattle.subtag.proofs.Strip.{subtag-is}
+use Rattle.subtag.proofs.write_subtag.Statement.{statement}
+use Rattle.subtag.proofs.write_subtag.Tie as tie
+
+-- the trimmed source t of s, and whether what it becomes fits
+module _ (s t old : List ℕ) (b : Bool) (trimmed : t ≡ dropNuls s) (told : b ≡ leb (length (replaced t)) (length old)) where
+  text : replaced t ≡ subtagOf s
+  text = rw trimmed (sym (subtag-is s))
+
+  fits : (new : List ℕ) (r : ℕ) → b ≡ true → Put old 0 (replaced t) new r → outcome (Written.Wrote r) new ≡ written (subtagOf s) old
+  fits new r e p =
+      let l = leb-true (length (replaced t)) (length old) (sym told ∙ e) in
+      rw (← text, front-ends p l) (put-written l p)
+
+  short : b ≡ false → outcome (Written.Refused Refusal.ShortBuffer) old ≡ written (subtagOf s) old
+  short e = rw (← text) (sym (written-short (replaced t) old (leb-false (length (replaced t)) (length old) (sym told ∙ e))))
+
+pub write-subtag-spec : {M : Type 1} → statement M
+write-subtag-spec =
+    tie.close
+    (tie.spec
+    (λ c κs. tt)
+    (λ c. sym (length-take-le _ _ (c .before .trim .ensures .0)))
+    (λ c κs. tt)
+    (λ c. sym (length-take-le _ _ (c .before .before .before .before .before .trim .ensures .0)))
+    (λ c κs. tt) (λ c. search needs)
+    (λ c. fits _ _ _ _ (c .before .before .before .before .before .before .before .before .trim .ensures .1) (c .before .before .before .before .before .before .fits2 .ensures) _ _ (c .before .before .before .before .before .if1 .taken) (c .before .before .put-replaced .ensures))
+    (λ c. short _ _ _ _ (c .before .before .before .trim .ensures .1) (c .before .fits2 .ensures) (c .if1 .left)))

@@ -1,0 +1,2 @@
+pub mod Subtag
+pub mod Utf8

@@ -1,0 +1,59 @@
+-- 01, "Text": subtags. Assumes nothing.
+use Prim.Native.Nat.{ℕ, zero, suc}
+use mathlib.Core.Path.{_≡_}
+use mathlib.Core.Bool.{cond}
+use mathlib.Core.List.{List, [], _∷_, _++_}
+use lib.Dec.{eqb}
+use lib.ListN.{length, take, drop}
+use Rattle.buffer.specs.Put.{Put}
+use Rattle.subtag.specs.declared.utf8.Front.{Front}
+use Rattle.subtag.specs.Utf8.{frontOf}
+
+-- U+FFFD in UTF-8, which stands for a maximal subpart
+abbrev pub replacement : List ℕ
+replacement = 0xEF ∷ 0xBF ∷ 0xBD ∷ []
+
+-- what the front of s becomes: a well-formed sequence stays, a maximal subpart is replaced
+abbrev pub pieceOf : Front → List ℕ → List ℕ
+pieceOf (Front.WellFormed n) s = take n s
+pieceOf (Front.IllFormed n) s = replacement
+
+-- how many bytes the front has
+abbrev pub sizeOf : Front → ℕ
+sizeOf (Front.WellFormed n) = n
+sizeOf (Front.IllFormed n) = n
+
+-- a writer that found the buffer old has put at place at what the front of s becomes, and taken the front: it leaves new and stops at r
+pub record Fronted (old : List ℕ) (at : ℕ) (s : List ℕ) (new : List ℕ) (r taken : ℕ) : Type 0 where
+  pub puts : Put old at (pieceOf (frontOf s) s) new r
+  pub takes : taken ≡ sizeOf (frontOf s)
+
+-- the front of s becomes so many bytes, and has so many
+pub record Measured (s : List ℕ) (becomes taken : ℕ) : Type 0 where
+  pub long : becomes ≡ length (pieceOf (frontOf s) s)
+  pub takes : taken ≡ sizeOf (frontOf s)
+
+-- front after front, k of them at the most
+unfoldable pub replacedBy : ℕ → List ℕ → List ℕ
+replacedBy zero s = []
+replacedBy (suc k) [] = []
+replacedBy (suc k) (b ∷ s) = pieceOf (frontOf (b ∷ s)) (b ∷ s) ++ replacedBy k (drop (sizeOf (frontOf (b ∷ s))) (b ∷ s))
+
+-- s with its ill-formed bytes replaced; each front has a byte at least, so there are no more fronts than bytes
+unfoldable pub replaced : List ℕ → List ℕ
+replaced s = replacedBy (length s) s
+
+-- b before a text, unless b is a NUL and the text is empty
+unfoldable pub keep : ℕ → List ℕ → List ℕ
+keep b [] = cond (eqb b 0) [] (b ∷ [])
+keep b (c ∷ t) = b ∷ c ∷ t
+
+-- s without the NULs at its end; NULs inside stay
+unfoldable pub dropNuls : List ℕ → List ℕ
+unfolding keep
+dropNuls [] = []
+dropNuls (b ∷ s) = keep b (dropNuls s)
+
+-- a subtag's text: ill-formed bytes replaced, then trailing NULs dropped
+unfoldable pub subtagOf : List ℕ → List ℕ
+subtagOf s = dropNuls (replaced s)

@@ -1,0 +1,4 @@
+pub mod Answers
+pub mod Cost
+pub mod Examples
+pub mod Long

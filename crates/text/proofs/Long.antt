@@ -1,0 +1,140 @@
+-- No text is longer than 344 bytes, and one record's text is as long. Assumes nothing.
+use Prim.Native.Nat.{ℕ, _+_, _*_, _/_, _%_, _≤_, _<_}
+use mathlib.Core.Path.{_≡_, refl}
+use mathlib.Core.Bool.{Bool, true, false, cond}
+use mathlib.Core.List.{List, [], _∷_, _++_}
+use native.Mathlib.Omega.{arith}
+use borrow.Author.Needs.{needs}
+use lib.Dec.{eqb, lit≤}
+use lib.ListN.{length, length-append}
+use mir.Val.{Val}
+use denote.Laws.{Is}
+use Rattle.buffer.specs.Ascii.{ascii}
+use Rattle.buffer.specs.Decimal.{decimal}
+use Rattle.buffer.proofs.Digits.{decimal-long}
+use Rattle.record.specs.declared.ResTableConfig.{ResTableConfig}
+use Rattle.record.proofs.ResTableConfig as config
+use Rattle.locale.specs.Locale.{localeSaid, localeWords}
+use Rattle.locale.proofs.Long.{locale-long, sized}
+use Rattle.places.specs.Places.{some, minorWords, pixelPlace, versionPlace, placesOf, textOf}
+use Rattle.text.proofs.Cost.{cost, total, first-long, Within, sum, within-total, words-cost, label-cost, dp-cost, gender-cost, layout-dir-cost, screen-size-cost, screen-long-cost, screen-round-cost, wide-color-gamut-cost, hdr-cost, orientation-cost, ui-mode-cost, ui-mode-night-cost, density-cost, touchscreen-cost, keys-hidden-cost, keyboard-cost, nav-hidden-cost, navigation-cost}
+
+-- what the type of a word says
+abbrev Word : ℕ → Type 0
+Word w = w < 4294967296
+
+code-cost : (front : List ℕ) (n : ℕ) → n < 65536 → cost (some n, front ++ decimal n) ≤ 1 + (length front + 5)
+code-cost front n h = label-cost (some n) front n 5 (decimal-long 4 n (omega arith))
+
+pixel-cost : (r : ResTableConfig) → Word (r .«screen_size») → cost (pixelPlace r) ≤ 12
+pixel-cost r h =
+    let w = r .«screen_size» % 65536 in
+    let k = r .«screen_size» / 65536 in
+    words-cost (some (r .«screen_size»)) (decimal w ++ ascii "x" ++ decimal k) 11
+    (omega (arith, length-append (decimal w ++ ascii "x") (decimal k), length-append (decimal w) (ascii "x"), decimal-long 4 w (omega arith), decimal-long 4 k (omega arith)))
+
+minor-long : (m : ℕ) → m < 65536 → length (minorWords m) ≤ 6
+minor-long m h = chosen (eqb m 0) (omega (arith, length-append (ascii ".") (decimal m), decimal-long 4 m (omega arith))) where
+  chosen : (t : Bool) → length (ascii "." ++ decimal m) ≤ 6 → length (cond t [] (ascii "." ++ decimal m)) ≤ 6
+  chosen true p = omega arith
+  chosen false p = p
+
+version-cost : (r : ResTableConfig) → Word (r .version) → cost (versionPlace r) ≤ 13
+version-cost r h =
+    let v = r .version % 65536 in
+    let m = r .version / 65536 in
+    words-cost (some (r .version)) (ascii "v" ++ decimal v ++ minorWords m) 12
+    (omega (arith, length-append (ascii "v" ++ decimal v) (minorWords m), length-append (ascii "v") (decimal v), decimal-long 4 v (omega arith), minor-long m (omega arith)))
+
+-- what each of the twenty-four places adds at the most; with no dash before the first, 344
+abbrev costs : List ℕ
+costs =
+    9 ∷ 9 ∷ 85 ∷ 10 ∷ 6 ∷ 10 ∷ 9 ∷ 9 ∷ 7 ∷ 8 ∷ 9 ∷ 9 ∷ 7 ∷ 16 ∷ 14 ∷ 15 ∷ 9 ∷ 16 ∷ 12 ∷ 13 ∷ 23 ∷ 15 ∷ 12 ∷ 13 ∷ []
+
+module _ (r : ResTableConfig) (vs : List Val) (h : Is config.the-row r vs) where
+  within : Within (placesOf r) costs
+  unfolding placesOf
+  within =
+      let imsi : Word (r .imsi) = search needs in
+      let config : Word (r .«screen_config») = search needs in
+      let dp : Word (r .«screen_size_dp») = search needs in
+      let screen : Word (r .«screen_type») = search needs in
+      let size : Word (r .«screen_size») = search needs in
+      let version : Word (r .version) = search needs in (
+        code-cost (ascii "mcc") (r .imsi % 65536) (omega arith),
+        (
+          code-cost (ascii "mnc") (r .imsi / 65536) (omega arith),
+          (
+            words-cost (localeSaid r) (localeWords r) 84 (locale-long r (sized r vs h)),
+            (
+              gender-cost (r .«generic_purpose_field» / 16777216),
+              (
+                layout-dir-cost (r .«screen_config» % 256),
+                (
+                  dp-cost (ascii "sw") (r .«screen_config» / 65536) (omega arith),
+                  (
+                    dp-cost (ascii "w") (r .«screen_size_dp» % 65536) (omega arith),
+                    (
+                      dp-cost (ascii "h") (r .«screen_size_dp» / 65536) (omega arith),
+                      (
+                        screen-size-cost (r .«screen_config» % 256),
+                        (
+                          screen-long-cost (r .«screen_config» % 256),
+                          (
+                            screen-round-cost (r .«screen_config_2» % 256),
+                            (
+                              wide-color-gamut-cost (r .«screen_config_2» / 256 % 256),
+                              (
+                                hdr-cost (r .«screen_config_2» / 256 % 256),
+                                (
+                                  orientation-cost (r .«screen_type» % 256) (omega arith),
+                                  (
+                                    ui-mode-cost (r .«screen_config» / 256 % 256),
+                                    (
+                                      ui-mode-night-cost (r .«screen_config» / 256 % 256),
+                                      (
+                                        density-cost (r .«screen_type» / 65536) (omega arith),
+                                        (
+                                          touchscreen-cost (r .«screen_type» / 256 % 256) (omega arith),
+                                          (
+                                            keys-hidden-cost (r .«generic_purpose_field» / 65536 % 256),
+                                            (
+                                              keyboard-cost (r .«generic_purpose_field» % 256) (omega arith),
+                                              (
+                                                nav-hidden-cost (r .«generic_purpose_field» / 65536 % 256),
+                                                (
+                                                  navigation-cost (r .«generic_purpose_field» / 256 % 256) (omega arith),
+                                                  (
+                                                    pixel-cost r size,
+                                                    (
+                                                      version-cost r version,
+                                                      tt,
+                                                    ),
+                                                  ),
+                                                ),
+                                              ),
+                                            ),
+                                          ),
+                                        ),
+                                      ),
+                                    ),
+                                  ),
+                                ),
+                              ),
+                            ),
+                          ),
+                        ),
+                      ),
+                    ),
+                  ),
+                ),
+              ),
+            ),
+          ),
+        ),
+      )
+
+  -- no text is longer, for every record that the type has
+  pub text-long : length (textOf r) ≤ 344
+  unfolding textOf
+  text-long = omega (arith, first-long (placesOf r), within-total (placesOf r) costs within)

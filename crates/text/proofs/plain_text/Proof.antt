@@ -1,0 +1,13 @@
+-- Parsing refuses, or its record is put into words. Assumes nothing.
+use Rattle.text.proofs.Answers.{plain-refused, plain-whole}
+use borrow.Author.Needs.{needs}
+use Rattle.text.proofs.plain_text.Statement.{statement}
+use Rattle.text.proofs.plain_text.Tie as tie
+
+pub plain-text-spec : {M : Type 1} → statement M
+plain-text-spec =
+    tie.close
+    (tie.spec
+    (λ c κs. tt) (λ c. search needs) (λ c. search needs) (λ c κs. tt) (λ c κs. tt)
+    (λ c. plain-refused _ _ _ (c .before .before .before .amount .ensures) _ (c .before .why .given .1)) (λ c. search needs)
+    (λ c. plain-whole _ _ _ (c .before .before .before .before .before .before .before .before .amount .ensures) _ (c .before .before .before .before .before .parse .result) _ (c .before .before .before .before .before .before .enum-told .given .1) (c .before .before .before .before .before .parse .ensures) (c .before .before .as-string .ensures)))

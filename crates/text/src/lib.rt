@@ -1,0 +1,64 @@
+// The text of a record: of a parsed one, of bytes, and of bytes for a reader of some age.
+use answers::Refusal;
+use answers::Taken;
+use answers::Written;
+use buffer::write;
+use marking::late_bytes;
+use places::put_places;
+use reading::amount;
+use reading::parse;
+use reading::parse_aged;
+use record::Age;
+use record::ResTableConfig;
+ghost use mathlib.Core.Path.{_≡_};
+ghost use Rattle.buffer.specs.Written.{outcome, written};
+ghost use Rattle.places.specs.Places.{textOf};
+ghost use Rattle.text.specs.Text.{plainText, agedText};
+
+// Writes the text of a record, as 000's `as_string` has it. No text is longer than 344 bytes, so where out has as many it is
+// put there at once.
+pub fn as_string(out: &mut [u8], r: ResTableConfig) -> Written
+    ensures { λ n. ⌜ outcome n (now (out .exit)) ≡ written (textOf r) (now (out .entry)) ⌝ }
+{
+    if 344 <= out.len() {
+        let n = put_places(out, 0, r);
+        return Written::Wrote(n);
+    }
+    let mut own = [0u8; 344];
+    let n = put_places(&mut own, 0, r);
+    write(out, &own[..n])
+}
+
+// Writes the plain text of the record at the front of bytes.
+pub fn plain_text(bytes: &[u8], out: &mut [u8]) -> Written
+    ensures { λ r. ⌜ outcome r (now (out .exit)) ≡ plainText (now (bytes .entry)) (now (out .entry)) ⌝ }
+{
+    match amount(bytes) {
+        Taken::Refused(why) => Written::Refused(why),
+        Taken::Took(_) => {
+            let parsed = parse(bytes);
+            let record = parsed.record;
+            as_string(out, record)
+        }
+    }
+}
+
+// Writes the text of the record at the front of bytes for a reader of an age; a record that is held back at it is refused.
+pub fn aged_text(bytes: &[u8], age: Age, out: &mut [u8]) -> Written
+    ensures { λ r. ⌜ outcome r (now (out .exit)) ≡ agedText (age .0) (now (bytes .entry)) (now (out .entry)) ⌝ }
+{
+    if !age.is_age() {
+        return Written::Refused(Refusal::NotAnAge);
+    }
+    match amount(bytes) {
+        Taken::Refused(why) => Written::Refused(why),
+        Taken::Took(taken) => {
+            if late_bytes(bytes, taken, age.0 as usize) {
+                return Written::Refused(Refusal::HeldBack);
+            }
+            let parsed = parse_aged(bytes, age);
+            let record = parsed.record;
+            as_string(out, record)
+        }
+    }
+}
