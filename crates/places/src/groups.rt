@@ -25,7 +25,8 @@ use kinds::WideColorGamut;
 use record::ResTableConfig;
 ghost use lib.ListN.{take, drop};
 ghost use Rattle.places.specs.Say.{Says};
-ghost use Rattle.places.specs.Places.{placesOf};
+ghost use Rattle.buffer.specs.Put.{Put};
+ghost use Rattle.places.specs.Places.{placesOf, textOf};
 
 // Places 0 to 3: the codes, the locale and the gender.
 fn places_from_0(out: &mut [u8], at: usize, r: ResTableConfig) -> usize
@@ -123,7 +124,7 @@ fn places_from_18(out: &mut [u8], at: usize, r: ResTableConfig) -> usize
 }
 
 // Puts the places of a record, those that are said.
-pub fn put_places(out: &mut [u8], at: usize, r: ResTableConfig) -> usize
+fn put_places(out: &mut [u8], at: usize, r: ResTableConfig) -> usize
     ensures { λ n. ⌜ Says (now (out .entry)) at (placesOf r) (now (out .exit)) n ⌝ }
 {
     let a = places_from_0(out, at, r);
@@ -131,4 +132,11 @@ pub fn put_places(out: &mut [u8], at: usize, r: ResTableConfig) -> usize
     let c = places_from_8(out, b, r);
     let d = places_from_13(out, c, r);
     places_from_18(out, d, r)
+}
+
+// Puts the text of a record at the front of out.
+pub fn put_text(out: &mut [u8], r: ResTableConfig) -> usize
+    ensures { λ n. ⌜ Put (now (out .entry)) 0 (textOf r) (now (out .exit)) n ⌝ }
+{
+    put_places(out, 0, r)
 }

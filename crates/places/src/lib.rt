@@ -1,9 +1,9 @@
 // The twenty-four places of a record, put one after the other.
 //
-// All of it is machinery: it stops at the buffer's end and refuses nothing.
+// `put_text` is machinery: it stops at the buffer's end and refuses nothing.
 mod groups;
 mod put;
 mod said;
 
-pub use groups::put_places;
+pub use groups::put_text;
 pub use said::kind_said;

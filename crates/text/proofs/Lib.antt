@@ -2,3 +2,5 @@ pub mod Answers
 pub mod Cost
 pub mod Examples
 pub mod Long
+pub mod OneOutcome
+pub mod Same

@@ -4,7 +4,7 @@ use answers::Taken;
 use answers::Written;
 use buffer::write;
 use marking::late_bytes;
-use places::put_places;
+use places::put_text;
 use reading::amount;
 use reading::parse;
 use reading::parse_aged;
@@ -21,11 +21,11 @@ pub fn as_string(out: &mut [u8], r: ResTableConfig) -> Written
     ensures { λ n. ⌜ outcome n (now (out .exit)) ≡ written (textOf r) (now (out .entry)) ⌝ }
 {
     if 344 <= out.len() {
-        let n = put_places(out, 0, r);
+        let n = put_text(out, r);
         return Written::Wrote(n);
     }
     let mut own = [0u8; 344];
-    let n = put_places(&mut own, 0, r);
+    let n = put_text(&mut own, r);
     write(out, &own[..n])
 }
 

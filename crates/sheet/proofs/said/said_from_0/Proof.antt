@@ -1,0 +1,20 @@
+-- The bits of a few places. Assumes nothing.
+use Rattle.sheet.proofs.Bits.{bits4}
+use native.Mathlib.Omega.{arith}
+use Rattle.places.specs.Places.{placesOf}
+use Rattle.sheet.specs.Sheet.{saidOf}
+use borrow.Author.Needs.{needs}
+use Rattle.sheet.proofs.said.said_from_0.Statement.{statement}
+use Rattle.sheet.proofs.said.said_from_0.Tie as tie
+
+returns : tie.Need-returns
+unfolding saidOf placesOf
+returns c = (bits4 (rw (c .before .before .before .before .before .before .before .before .before .get-mcc-mnc .ensures) at (c .before .before .before .before .before .before .some-bit .ensures .0)) (rw (c .before .before .before .before .before .before .before .before .before .get-mcc-mnc .ensures) at (c .before .before .before .before .some-bit2 .ensures .0)) (c .before .before .some-bit3 .ensures .0) (rw (c .before .from .ensures, c .before .before .before .before .before .before .before .before .get-grammatical-inflection .ensures) at (c .kind-bit .ensures .0)), omega arith)
+
+pub said-from-0-spec : {M : Type 1} → statement M
+said-from-0-spec =
+    tie.close
+    (tie.spec
+    (λ c κs. tt) (λ c κs. tt) (λ c. search needs) (λ c κs. tt) (λ c. search needs) (λ c κs. tt) (λ c κs. tt) (λ c κs. tt)
+    (λ c κs. tt) (λ c. search needs) (λ c. search needs) (λ c. search needs) (λ c. search needs) (λ c. search needs)
+    (λ c. search needs) returns)

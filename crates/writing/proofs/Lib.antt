@@ -1,0 +1,14 @@
+pub mod Below
+pub mod Zeros
+pub mod Shapes
+pub mod Arms
+pub mod Held
+pub mod Laid
+pub mod Order
+pub mod Places
+pub mod Answers
+pub mod OneOutcome
+pub mod Back
+pub mod Bytes
+pub mod Same
+pub mod Examples

@@ -1,0 +1,163 @@
+-- The bytes of a record, read and written back, are the same exactly when they say no more than the record. Assumes nothing.
+use Prim.Native.Nat.{ℕ, _≤_, _<_, _-_, max}
+use mathlib.Core.Path.{_≡_, refl, sym, ap, _∙_}
+use mathlib.Core.Bool.{Bool, true, false, _||_, _&&_, true≢false}
+use mathlib.Core.List.{List}
+use native.Mathlib.Omega.{arith}
+use lib.Dec.{lit<}
+use lib.ListN.{length, getD, take, drop, replicate, length-replicate}
+use lib.Seq.{ext-getD, getD-take, length-take-le, take-at}
+use Rattle.buffer.specs.Written.{Outcome, wrote}
+use Rattle.record.specs.Table.{part, le, allZero, startOf, endOf, widthOf}
+use Rattle.reading.specs.Reading.{reads, fieldBy, recordBy, plain, sizeOf, taken}
+use Rattle.reading.proofs.Limits.{start-end}
+use Rattle.writing.specs.Writing.{bytes4, bit, bytesOf, span, inField, decoded, keeps, tidy, shown, writeOf, Shaped, Kept}
+use Rattle.writing.proofs.Below.{none, _then_, all-at, and-both, Place, some-place, each-here}
+use Rattle.writing.proofs.Zeros.{all-zeros, part-at}
+use Rattle.writing.proofs.Bytes.{Bytes, part-bytes, zeros-bytes, word-back, yes-back, bit-most}
+use Rattle.writing.proofs.Order.{in-says, end-within}
+use Rattle.writing.proofs.Places.{shown-in, shown-out, shown-long}
+use Rattle.writing.proofs.Answers.{wrote-is}
+use Rattle.writing.proofs.Back.{part-long}
+
+-- s: bytes, with a whole record at their front
+module _ (s : List ℕ) (small : Bytes s) (whole : taken s ≤ length s) where
+  -- the fields that are read
+  abbrev held : ℕ → Bool
+  held = reads (sizeOf s)
+
+  -- what is read of field f
+  abbrev own : ℕ → List ℕ
+  own = fieldBy held s
+
+  same-size : plain s .size ≡ sizeOf s
+  unfolding plain recordBy fieldBy reads
+  same-size = refl
+
+  read-is : (f : ℕ) → held f ≡ true → own f ≡ part s (startOf f) (widthOf f)
+  unfolding fieldBy
+  read-is f e = rw e
+
+  unread-is : (f : ℕ) → held f ≡ false → own f ≡ replicate (widthOf f) 0
+  unfolding fieldBy
+  unread-is f e = rw e
+
+  long-by : (f : ℕ) → f < 15 → (b : Bool) → held f ≡ b → length (own f) ≡ widthOf f
+  long-by f h true e =
+      rw (read-is f e) (part-long s (startOf f) (widthOf f) (omega (arith, whole, end-within (sizeOf s) f h e, start-end f h)))
+  long-by f h false e = rw (unread-is f e) (length-replicate {A = ℕ} (widthOf f) 0)
+
+  own-long : (f : ℕ) → f < 15 → length (own f) ≡ widthOf f
+  own-long f h = long-by f h (held f) refl
+
+  bytes-by : (f : ℕ) (b : Bool) → held f ≡ b → Bytes (own f)
+  bytes-by f true e = rw (read-is f e) (part-bytes s (startOf f) (widthOf f) small)
+  bytes-by f false e = rw (unread-is f e) (zeros-bytes (widthOf f))
+
+  pub shaped-read : Shaped (plain s)
+  unfolding plain recordBy
+  shaped-read = record { script = own-long 9 (lit< tt); variant = own-long 10 (lit< tt); numbering = own-long 13 (lit< tt); padding = own-long 14 (lit< tt) }
+
+  -- the computed byte, where it is read, is 0 or 1
+  abbrev Low : Type 0
+  Low = held 12 ≡ true → getD s 52 0 ≤ 1
+
+  low-by : Low → (b : Bool) → held 12 ≡ b → getD (own 12) 0 0 ≤ 1
+  low-by c true e = rw (read-is 12 e, part-at s 52 1 52 (omega arith) (omega arith)) (c e)
+  low-by c false e = rw (unread-is 12 e) (omega arith)
+
+  word : (f : ℕ) → f < 15 → widthOf f ≡ 4 → bytes4 (le (own f)) ≡ own f
+  word f h e = word-back (own f) (own-long f h ∙ e) (bytes-by f (held f) refl)
+
+  -- each field of the record that was read has the bytes that were read
+  same-bytes : (f : ℕ) → f < 15 → (f ≡ 12 → Low) → bytesOf (plain s) f ≡ own f
+  unfolding plain recordBy bytesOf
+  same-bytes =
+      all-at (λ f. (f ≡ 12 → Low) → bytesOf (plain s) f ≡ own f) 15
+      (none
+      then (λ c. word 0 (lit< tt) refl)
+      then (λ c. word 1 (lit< tt) refl)
+      then (λ c. word 2 (lit< tt) refl)
+      then (λ c. word 3 (lit< tt) refl)
+      then (λ c. word 4 (lit< tt) refl)
+      then (λ c. word 5 (lit< tt) refl)
+      then (λ c. word 6 (lit< tt) refl)
+      then (λ c. word 7 (lit< tt) refl)
+      then (λ c. word 8 (lit< tt) refl)
+      then (λ c. refl)
+      then (λ c. refl)
+      then (λ c. word 11 (lit< tt) refl)
+      then (λ c. yes-back (own 12) (own-long 12 (lit< tt)) (low-by (c refl) (held 12) refl))
+      then (λ c. refl)
+      then (λ c. refl))
+
+  tidy-by : (f : ℕ) → f < 15 → (b : Bool) → held f ≡ b → b || allZero (bytesOf (plain s) f) ≡ true
+  tidy-by f h true e = refl
+  tidy-by f h false e = rw (same-bytes f h (λ q t. absurd (true≢false (sym t ∙ ap held (sym q) ∙ e))), unread-is f e) (all-zeros (widthOf f))
+
+  -- the writer doesn't refuse what was read with 6
+  pub tidy-read : tidy (plain s) ≡ true
+  unfolding tidy
+  tidy-read = each-here 15 (keeps (plain s)) (λ f h. ap (λ (m : ℕ). reads m f || allZero (bytesOf (plain s) f)) same-size ∙ tidy-by f h (held f) refl)
+
+  span-is : span (plain s) ≡ taken s
+  span-is = ap (λ (m : ℕ). max m 16) same-size
+
+  out-long : length (shown (plain s)) ≡ taken s
+  out-long = shown-long (plain s) shaped-read ∙ span-is
+
+  -- a byte of what is written, in a field that is read
+  out-in : (k f : ℕ) → f < 15 → held f ≡ true → startOf f ≤ k → k < endOf f → getD (shown (plain s)) k 0 ≡ getD (bytesOf (plain s) f) (k - startOf f) 0
+  out-in k f h e = shown-in (plain s) shaped-read k f h (ap (λ (m : ℕ). reads m f) same-size ∙ e)
+
+  -- and in none
+  out-none : (k : ℕ) → decoded (sizeOf s) k ≡ false → getD (shown (plain s)) k 0 ≡ 0
+  out-none k e = shown-out (plain s) shaped-read k (ap (λ (m : ℕ). decoded m k) same-size ∙ e)
+
+  in-place : (k : ℕ) → Low → Place 15 (λ f. held f && inField k f) true → getD (shown (plain s)) k 0 ≡ getD s k 0
+  in-place k c w =
+      let f = w .place in
+      let p = and-both (w .gives) in
+      let i = in-says k f (p .1) in
+      out-in k f (w .within) (p .0) (i .0) (i .1)
+      ∙ ap (λ (l : List ℕ). getD l (k - startOf f) 0) (same-bytes f (w .within) (λ q. c) ∙ read-is f (p .0))
+      ∙ part-at s (startOf f) (widthOf f) k (i .0) (omega (arith, i .0, i .1))
+
+  kept-by : Kept s → (k : ℕ) → k < taken s → (b : Bool) → decoded (sizeOf s) k ≡ b → getD (shown (plain s)) k 0 ≡ getD s k 0
+  unfolding decoded
+  kept-by w k h true e = in-place k (w .computed) (some-place 15 (λ f. held f && inField k f) e)
+  kept-by w k h false e = out-none k e ∙ sym (w .skipped k h e)
+
+  kept-then : Kept s → shown (plain s) ≡ take (taken s) s
+  kept-then w =
+      ext-getD 0 (shown (plain s)) (take (taken s) s) (out-long ∙ sym (length-take-le (taken s) s whole))
+      (λ k l. let h : k < taken s = omega (arith, out-long) in
+      kept-by w k h (decoded (sizeOf s) k) refl ∙ sym (getD-take (taken s) s k 0 h))
+
+  module _ (e : shown (plain s) ≡ take (taken s) s) where
+    at-place : (k : ℕ) → k < taken s → getD s k 0 ≡ getD (shown (plain s)) k 0
+    at-place k h = sym (getD-take (taken s) s k 0 h) ∙ ap (λ (l : List ℕ). getD l k 0) (sym e)
+
+    low : Low
+    unfolding bytesOf
+    low t =
+        let b = plain s .«locale_script_was_computed» in
+        let g : getD s 52 0 ≡ bit b = at-place 52 (omega (arith, end-within (sizeOf s) 12 (lit< tt) t)) ∙ out-in 52 12 (lit< tt) t (omega arith) (omega arith) in
+        rw g (bit-most b)
+
+    then-kept : Kept s
+    then-kept = record { skipped = λ k h d. at-place k h ∙ out-none k d; computed = low }
+
+  -- the T bytes that the record read from s is written as are those of s exactly when s says no more than the record
+  pub exactly : (shown (plain s) ≡ take (taken s) s → Kept s) × (Kept s → shown (plain s) ≡ take (taken s) s)
+  exactly = (then-kept, kept-then)
+
+  -- the same of the writer, with a lent buffer that holds them: it writes T bytes, and they are those of s exactly then
+  pub written-same : (old : List ℕ) → taken s ≤ length old
+      → (writeOf (plain s) old ≡ wrote (shown (plain s)) old)
+      × (take (taken s) (writeOf (plain s) old .leaves) ≡ take (taken s) s → Kept s)
+      × (Kept s → take (taken s) (writeOf (plain s) old .leaves) ≡ take (taken s) s)
+  written-same old h =
+      let o = wrote-is (plain s) shaped-read old tidy-read (omega (arith, span-is)) in
+      let f = ap (λ (z : Outcome). take (taken s) (z .leaves)) o ∙ take-at (shown (plain s)) (drop (length (shown (plain s))) old) (taken s) out-long in
+      (o, (λ e. then-kept (sym f ∙ e)), (λ w. f ∙ kept-then w))

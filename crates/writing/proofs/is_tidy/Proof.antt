@@ -1,0 +1,81 @@
+-- The fields before f are read or zero. Assumes nothing.
+use mathlib.Core.Path.{_≡_, sym, ap, _∙_}
+use mathlib.Core.Bool.{true}
+use mathlib.Core.Logic.{⊎-elim}
+use Prim.Native.Nat.{ℕ, _-_, _≤_, _<_}
+use native.Mathlib.Omega.{arith}
+use borrow.Author.Needs.{needs}
+use Rattle.reading.proofs.Limits.{start-end}
+use Rattle.writing.specs.Writing.{each, span, keeps, tidy}
+use Rattle.writing.proofs.Below.{each-none, each-more, each-stop}
+use Rattle.writing.proofs.Held.{held-is, zero-is, neither-is}
+use Rattle.writing.proofs.is_tidy.Statement.{statement}
+use Rattle.writing.proofs.is_tidy.Tie as tie
+
+abbrev Inv-loop : tie.InvT-loop
+Inv-loop r t f₀ f = (f ≤ 15) × (t ≡ span r) × (each f (keeps r) ≡ true)
+
+abbrev μ-loop : tie.MeasureT-loop
+μ-loop r t f₀ f = 15 - f
+
+loop-holds : tie.Need-loop-holds Inv-loop μ-loop
+loop-holds c = (omega arith, c .pre, each-none (keeps (c .args .r)))
+
+sub-late-bytes : tie.Need-sub-late-bytes Inv-loop μ-loop
+sub-late-bytes c =
+    let l = c .before .before .before .before .loop in
+    let h : l .f < 15 = omega arith in
+    omega (arith, start-end (l .f) h)
+
+returns : tie.Need-returns Inv-loop μ-loop
+unfolding tidy
+returns c =
+    let r = c .before .before .before .before .before .before .before .args .r in
+    let l = c .before .before .before .before .before .before .loop in
+    let h : l .f < 15 = omega arith in
+    sym (each-stop 15 (keeps r) (l .f) h
+    (neither-is r _ (l .f) (l .inv .1) h _ (c .before .before .before .field-of .ensures) _ (c .before .late-bytes .ensures)
+    (c .before .before .before .before .if1 .taken) (c .if2 .taken)))
+
+loop-again : tie.Need-loop-again Inv-loop μ-loop
+loop-again c =
+    let r = c .before .before .before .args .r in
+    let l = c .before .before .loop in
+    let h : l .f < 15 = omega arith in (
+      omega arith,
+      l .inv .1,
+      each-more (keeps r) (l .f) (l .inv .2)
+          (⊎-elim
+          (λ w. zero-is r _ (l .f) (l .inv .1) h _ (w .1 .ensures) _ (w .3 .ensures) (w .4 .left))
+          (λ w. held-is r _ (l .f) (l .inv .1) h (w .left))
+          (c .if1 .came)),
+    )
+
+returns-2 : tie.Need-returns-2 Inv-loop μ-loop
+unfolding tidy
+returns-2 c =
+    let r = c .before .before .args .r in
+    let l = c .before .loop in
+    let e : l .f ≡ 15 = omega arith in
+    sym (ap (λ (n : ℕ). each n (keeps r)) (sym e) ∙ l .inv .2)
+
+pub is-tidy-spec : {M : Type 1} → statement M
+is-tidy-spec =
+    tie.close
+    (tie.spec
+    Inv-loop
+    μ-loop
+    loop-holds
+    (λ c. search needs)
+    (λ c. search needs)
+    (λ c. search needs)
+    (λ c. search needs)
+    (λ c κs. search needs)
+    (λ c. search needs)
+    sub-late-bytes
+    (λ c κs. search needs)
+    returns
+    (λ c. search needs)
+    (λ c. search needs)
+    loop-again
+    returns-2)
