@@ -47,14 +47,11 @@ pub const ASKED: &[Asked] = &[
     Asked {
         tag: 36,
         name: "written back",
-        full: |random| if PORT_WRITES { all_of(RECORDS, random) } else { Vec::new() },
-        fixed: || if PORT_WRITES { few_of(RECORDS, 4) } else { Vec::new() },
+        full: |random| all_of(RECORDS, random),
+        fixed: || few_of(RECORDS, 4),
         answer: |bytes| told(taken(bytes).map(|(record, _)| written(&record))),
     },
 ];
-
-/// Whether the port has a writer yet: until then nothing is asked to be written back.
-const PORT_WRITES: bool = false;
 
 /// The answer where there is no whole record: the Rust has one error, and not 01's 1 and 2.
 const REFUSED: u8 = 0xff;

@@ -1,5 +1,6 @@
 // What the port answers to each kind of question on records, by its tag. The table of tests/rust has the same tags.
 use answers::Taken;
+use answers::Written;
 use kinds::Density;
 use record::Ordering;
 use record::ResTableConfig;
@@ -14,6 +15,7 @@ pub(crate) fn answer(tag: u8, payload: &[u8], out: &mut [u8]) -> usize {
         33 => accessors(payload, out),
         34 => set_density(payload, out),
         35 => compare(payload, out),
+        36 => written_back(payload, out),
         _ => 0,
     }
 }
@@ -35,6 +37,31 @@ fn parse(bytes: &[u8], out: &mut [u8]) -> usize {
             put_fields(out, at, record)
         }
         Taken::Refused(_) => refused(out),
+    }
+}
+
+// The bytes that the writer gives for the record that parsing gives.
+fn written_back(bytes: &[u8], out: &mut [u8]) -> usize {
+    let parsed = reading::parse(bytes);
+    let answer = parsed.answer;
+    match answer {
+        Taken::Took(_) => {
+            let record = parsed.record;
+            put_written(out, record)
+        }
+        Taken::Refused(_) => refused(out),
+    }
+}
+
+// A byte 0, and what the writer writes behind it; a refusal, which no question should meet, leaves no answer.
+fn put_written(out: &mut [u8], record: ResTableConfig) -> usize {
+    let at = buffer::put_byte(out, 0, 0);
+    if out.len() < at {
+        return 0;
+    }
+    match writing::write(record, &mut out[at..]) {
+        Written::Wrote(n) => std::num::wrapping_add_usize(at, n),
+        Written::Refused(_) => 0,
     }
 }
 
