@@ -53,14 +53,10 @@ fn written_back(bytes: &[u8], out: &mut [u8]) -> usize {
     }
 }
 
-// A byte 0, and what the writer writes behind it; a refusal, which no question should meet, leaves no answer.
+// What the writer writes; a refusal, which no question should meet, leaves no answer.
 fn put_written(out: &mut [u8], record: ResTableConfig) -> usize {
-    let at = buffer::put_byte(out, 0, 0);
-    if out.len() < at {
-        return 0;
-    }
-    match writing::write(record, &mut out[at..]) {
-        Written::Wrote(n) => std::num::wrapping_add_usize(at, n),
+    match writing::write(record, out) {
+        Written::Wrote(n) => n,
         Written::Refused(_) => 0,
     }
 }
