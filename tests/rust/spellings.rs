@@ -1,6 +1,7 @@
-//! What the questions on texts are asked about: every value of what a text says, and bytes that should be UTF-8 and may not be.
+//! What the questions on texts are asked about: every value that a text says, and bytes that may or may not be UTF-8.
 use crate::payloads::{declare, declared, many, one, usual, Maker};
 use crate::questions::Random;
+use std::ops::Range;
 
 /// Records, by what each of their bytes says.
 pub const PLACES: &[Maker] = &[densities, values, of_every_size];
@@ -62,8 +63,10 @@ const LEADS: [(u8, u8); 12] = [
 /// A byte of each class that may follow.
 const FOLLOWERS: [u8; 13] = [0x00, 0x41, 0x7f, 0x80, 0x8f, 0x90, 0x9f, 0xa0, 0xbf, 0xc2, 0xe2, 0xf0, 0xff];
 
-/// Where script, variant and numbering system lie, and the computed byte.
-const SUBTAGGED: [std::ops::Range<usize>; 3] = [36..40, 40..48, 53..61];
+/// Where script, variant and numbering system lie.
+const SUBTAGGED: [Range<usize>; 3] = [36..40, 40..48, 53..61];
+
+/// Where it stands whether the script was computed.
 const COMPUTED: usize = 52;
 
 /// Three letters packed in two bytes.
@@ -98,7 +101,7 @@ fn ground(random: &mut Random) -> Vec<u8> {
 }
 
 /// Lays bytes over a record from a place on, as far as the part reaches.
-fn lay(bytes: &mut [u8], part: std::ops::Range<usize>, at: usize, word: &[u8]) {
+fn lay(bytes: &mut [u8], part: Range<usize>, at: usize, word: &[u8]) {
     for (byte, new) in bytes[part].iter_mut().skip(at).zip(word) {
         *byte = *new;
     }
@@ -200,7 +203,7 @@ fn name_locale(random: &mut Random, bytes: &mut [u8]) {
     bytes[COMPUTED] = one(random, &[0, 0, 0, 1]);
 }
 
-/// Records with and without a script that was computed, a variant and a numbering system, each present, empty or begun by NUL.
+/// Records with script, variant and numbering system each there, empty, or begun by a NUL, and the script computed or not.
 fn computed(random: &mut Random) -> Vec<Vec<u8>> {
     many(6_000, random, |random| {
         let mut bytes = ground(random);
@@ -263,6 +266,7 @@ fn sequences(random: &mut Random) -> Vec<Vec<u8>> {
 /// Records with a sequence in each of script, variant and numbering system, in the last two at any place, so that it may be
 /// cut by the end.
 fn ill_spelled(random: &mut Random) -> Vec<Vec<u8>> {
+    let words = sequences(random);
     let with = |word: Vec<u8>| {
         let mut bytes = ground(random);
         name_locale(random, &mut bytes);
@@ -275,7 +279,6 @@ fn ill_spelled(random: &mut Random) -> Vec<Vec<u8>> {
         }
         bytes
     };
-    let words = sequences(&mut Random(0));
     words.into_iter().map(with).collect()
 }
 
