@@ -4,7 +4,9 @@ mod payloads;
 mod questions;
 mod records;
 mod shim;
+mod spellings;
 mod subject;
+mod texts;
 
 use questions::{answered_by, Question};
 use std::io::{Read, Write};

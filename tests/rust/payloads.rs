@@ -3,7 +3,7 @@ use crate::questions::Random;
 use std::ops::Range;
 
 /// Makes payloads of one sort.
-type Maker = fn(&mut Random) -> Vec<Vec<u8>>;
+pub type Maker = fn(&mut Random) -> Vec<Vec<u8>>;
 
 /// Records, whole and not.
 pub const RECORDS: &[Maker] = &[every_size, around_ends, tails, not_there, whole, damaged];
@@ -69,12 +69,12 @@ fn pair(first: &[u8], second: &[u8]) -> Vec<u8> {
 }
 
 /// So many payloads of one sort.
-fn many(count: usize, random: &mut Random, make: fn(&mut Random) -> Vec<u8>) -> Vec<Vec<u8>> {
+pub fn many(count: usize, random: &mut Random, make: fn(&mut Random) -> Vec<u8>) -> Vec<Vec<u8>> {
     (0..count).map(|_| make(random)).collect()
 }
 
 /// One of some values.
-fn one<T: Copy>(random: &mut Random, values: &[T]) -> T {
+pub fn one<T: Copy>(random: &mut Random, values: &[T]) -> T {
     values[random.below(values.len())]
 }
 
@@ -85,21 +85,21 @@ fn field(random: &mut Random) -> Range<usize> {
 }
 
 /// Random bytes that declare a size, as far as they reach.
-fn declared(random: &mut Random, size: usize, length: usize) -> Vec<u8> {
+pub fn declared(random: &mut Random, size: usize, length: usize) -> Vec<u8> {
     let mut bytes = random.bytes(length);
     declare(&mut bytes, size);
     bytes
 }
 
 /// Lays a size over the front of some bytes, as far as they reach.
-fn declare(bytes: &mut [u8], size: usize) {
+pub fn declare(bytes: &mut [u8], size: usize) {
     for (byte, of_size) in bytes.iter_mut().zip((size as u32).to_le_bytes()) {
         *byte = of_size;
     }
 }
 
 /// A whole record with some of its fields blank.
-fn record(random: &mut Random, size: usize) -> Vec<u8> {
+pub fn record(random: &mut Random, size: usize) -> Vec<u8> {
     let mut bytes = declared(random, size, size.max(16));
     let blank = random.below(4);
     for at in 1..15 {
@@ -111,7 +111,7 @@ fn record(random: &mut Random, size: usize) -> Vec<u8> {
 }
 
 /// A whole record of a size that files have.
-fn usual(random: &mut Random) -> Vec<u8> {
+pub fn usual(random: &mut Random) -> Vec<u8> {
     let size = one(random, &USUAL);
     record(random, size)
 }

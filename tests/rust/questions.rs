@@ -1,5 +1,5 @@
 //! What a question is, how questions are made, and how they are framed: tag, length in four bytes, payload.
-use crate::{kinds, records};
+use crate::{kinds, records, texts};
 
 /// One kind of question: its tag, its name, its payloads in the full run and in the fixed list, and how the Rust answers.
 pub struct Asked {
@@ -11,7 +11,8 @@ pub struct Asked {
 }
 
 /// The programs over the port that answer questions, and the kinds of question that each answers, a table to a file.
-pub const TABLES: &[(&str, &[Asked])] = &[("replay", kinds::ASKED), ("replay_records", records::ASKED)];
+pub const TABLES: &[(&str, &[Asked])] =
+    &[("replay", kinds::ASKED), ("replay_records", records::ASKED), ("replay_text", texts::ASKED)];
 
 /// The kinds of question that a program answers.
 pub fn answered_by(program: &str) -> Result<&'static [Asked], String> {

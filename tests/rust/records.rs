@@ -57,12 +57,12 @@ pub const ASKED: &[Asked] = &[
 const REFUSED: u8 = 0xff;
 
 /// An answer, or the refusal.
-fn told(answer: Option<Vec<u8>>) -> Vec<u8> {
+pub fn told(answer: Option<Vec<u8>>) -> Vec<u8> {
     answer.unwrap_or(vec![REFUSED])
 }
 
 /// The record at the front of some bytes, and how many of them the Rust took for it.
-fn taken(bytes: &[u8]) -> Option<(ResTableConfig, usize)> {
+pub fn taken(bytes: &[u8]) -> Option<(ResTableConfig, usize)> {
     let mut rest = bytes;
     let record = reach::parse(&mut rest)?;
     Some((record, bytes.len() - rest.len()))

@@ -13,4 +13,23 @@ pub mod reach {
     pub fn parse(input: &mut &[u8]) -> Option<ResTableConfig> {
         ResTableConfig::parse(input).ok()
     }
+    /// The words of the two bytes of a language.
+    pub fn unpack_language(bytes: [u8; 2]) -> String {
+        ResTableConfig::default().unpack_language(bytes)
+    }
+
+    /// The words of the two bytes of a region.
+    pub fn unpack_region(bytes: [u8; 2]) -> String {
+        ResTableConfig::default().unpack_region(bytes)
+    }
+
+    /// Appends the words of a record's locale to a text.
+    pub fn append_dir_locale(record: &ResTableConfig, text: &mut String) {
+        record.append_dir_locale(text)
+    }
+
+    /// Some bytes as a subtag.
+    pub fn subtag(bytes: &[u8]) -> String {
+        ResTableConfig::subtag(bytes)
+    }
 }
