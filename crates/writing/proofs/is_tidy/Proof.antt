@@ -35,7 +35,7 @@ returns c =
     let h : l .f < 15 = omega arith in
     sym (each-stop 15 (keeps r) (l .f) h
     (neither-is r _ (l .f) (l .inv .1) h _ (c .before .before .before .field-of .ensures) _ (c .before .late-bytes .ensures)
-    (c .before .before .before .before .if1 .taken) (c .if2 .taken)))
+    (omega (arith, c .before .before .before .before .if1 .taken)) (c .if2 .taken)))
 
 loop-again : tie.Need-loop-again Inv-loop μ-loop
 loop-again c =
@@ -47,7 +47,7 @@ loop-again c =
       each-more (keeps r) (l .f) (l .inv .2)
           (⊎-elim
           (λ w. zero-is r _ (l .f) (l .inv .1) h _ (w .1 .ensures) _ (w .3 .ensures) (w .4 .left))
-          (λ w. held-is r _ (l .f) (l .inv .1) h (w .left))
+          (λ w. held-is r _ (l .f) (l .inv .1) h (omega (arith, w .left)))
           (c .if1 .came)),
     )
 

@@ -38,7 +38,7 @@ put-at-requires c κs =
     let l = c .before .before .before .before .before .loop in
     let h : l .f < 15 = omega arith in
     let n : length (c .before .before .field-of .result) ≡ 8 = search needs in
-    let g : endOf (l .f) ≤ c .before .before .before .before .before .before .before .args .t = c .before .before .before .if1 .taken in
+    let g : endOf (l .f) ≤ c .before .before .before .before .before .before .before .args .t = omega arith in
     (omega (arith, start-end (l .f) h), omega (arith, width-most (l .f) h))
 
 loop-again : tie.Need-loop-again Inv-loop μ-loop
@@ -56,7 +56,7 @@ loop-again c =
       i .1,
       i .2,
       ⊎-elim
-          (λ w. let g : endOf (l .f) ≤ t = w .0 .taken in
+          (λ w. let g : endOf (l .f) ≤ t = omega (arith, w .0 .taken) in
           let n : length (w .1 .result) ≡ 8 = search needs in (
             ap length (w .7 ∙ w .4 .ensures) ∙ length-paste (l .out) (startOf (l .f)) (w .1 .result) (widthOf (l .f)) (omega arith) (omega (arith, width-most (l .f) h)) ∙ i .3 .0,
             w .7 ∙ w .4 .ensures ∙ laid-more r o t (l .f) (w .1 .result) (l .out) (read-at r t (l .f) (i .1) h g) (w .1 .ensures) (i .3 .1) (omega arith),
