@@ -32,6 +32,10 @@ pub place-silent : {o : List ℕ} {at : ℕ} {said : Bool} (w : List ℕ) → sa
 unfolding sayAll say
 place-silent w e = record { keeps = refl; goes = λ base t p. rw e p }
 
+-- a kind of which the test was made first
+pub kind-shown : {o : List ℕ} {at : ℕ} {said : Bool} {w : List ℕ} {n : List ℕ} {r : ℕ} → said ≡ true → Says o at ((true, w) ∷ []) n r → Says o at ((said, w) ∷ []) n r
+kind-shown e p = rw e p
+
 -- a number that isn't 0 is said, and one that is 0 is not
 pub some-said : (n : ℕ) → (n ≡ 0 → ⊥) → some n ≡ true
 some-said n h = rw (ne-eqb n 0 h)

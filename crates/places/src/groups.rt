@@ -1,27 +1,25 @@
 // The places in their order, a few to a function.
+use crate::kind_places::density_place;
+use crate::kind_places::grammatical_gender_place;
+use crate::kind_places::hdr_place;
+use crate::kind_places::keyboard_place;
+use crate::kind_places::keys_hidden_place;
+use crate::kind_places::layout_dir_place;
+use crate::kind_places::nav_hidden_place;
+use crate::kind_places::navigation_place;
+use crate::kind_places::orientation_place;
+use crate::kind_places::screen_long_place;
+use crate::kind_places::screen_round_place;
+use crate::kind_places::screen_size_place;
+use crate::kind_places::touchscreen_place;
+use crate::kind_places::ui_mode_night_place;
+use crate::kind_places::ui_mode_place;
+use crate::kind_places::wide_color_gamut_place;
 use crate::put::dp_place;
-use crate::put::kind_place;
 use crate::put::label_place;
 use crate::put::locale_place;
 use crate::put::pixel_place;
 use crate::put::version_place;
-use kinds::Density;
-use kinds::GrammaticalGender;
-use kinds::Hdr;
-use kinds::Keyboard;
-use kinds::KeysHidden;
-use kinds::Kind;
-use kinds::LayoutDir;
-use kinds::NavHidden;
-use kinds::Navigation;
-use kinds::Orientation;
-use kinds::ScreenLong;
-use kinds::ScreenRound;
-use kinds::ScreenSize;
-use kinds::Touchscreen;
-use kinds::UIMode;
-use kinds::UIModeNight;
-use kinds::WideColorGamut;
 use record::ResTableConfig;
 ghost use lib.ListN.{take, drop};
 ghost use Rattle.places.specs.Say.{Says};
@@ -33,11 +31,11 @@ fn places_from_0(out: &mut [u8], at: usize, r: ResTableConfig) -> usize
     ensures { λ n. ⌜ Says (now (out .entry)) at (take 4 (placesOf r)) (now (out .exit)) n ⌝ }
 {
     let codes = r.get_mcc_mnc();
-    let gender = GrammaticalGender::from(r.get_grammatical_inflection());
+    let gender = r.get_grammatical_inflection();
     let a = label_place(out, at, b"mcc", codes.mcc);
     let b = label_place(out, a, b"mnc", codes.mnc);
     let c = locale_place(out, b, r);
-    kind_place(out, c, Kind::GrammaticalGender(gender))
+    grammatical_gender_place(out, c, gender)
 }
 
 // Places 4 to 7: the layout direction and the dp values.
@@ -46,11 +44,7 @@ fn places_from_4(out: &mut [u8], at: usize, r: ResTableConfig) -> usize
 {
     let layout = r.get_screen_layout_ui_smallest_width();
     let dp = r.get_screen_width_height_dp();
-    let a = kind_place(
-        out,
-        at,
-        Kind::LayoutDir(LayoutDir::from(layout.screen_layout)),
-    );
+    let a = layout_dir_place(out, at, layout.screen_layout);
     let b = dp_place(out, a, b"sw", layout.smallest_screen_width_dp);
     let c = dp_place(out, b, b"w", dp.screen_width_dp);
     dp_place(out, c, b"h", dp.screen_height_dp)
@@ -62,27 +56,11 @@ fn places_from_8(out: &mut [u8], at: usize, r: ResTableConfig) -> usize
 {
     let layout = r.get_screen_layout_ui_smallest_width();
     let second = r.get_screen_layout_2_color_mode();
-    let a = kind_place(
-        out,
-        at,
-        Kind::ScreenSize(ScreenSize::from(layout.screen_layout)),
-    );
-    let b = kind_place(
-        out,
-        a,
-        Kind::ScreenLong(ScreenLong::from(layout.screen_layout)),
-    );
-    let c = kind_place(
-        out,
-        b,
-        Kind::ScreenRound(ScreenRound::from(second.screen_layout_2)),
-    );
-    let d = kind_place(
-        out,
-        c,
-        Kind::WideColorGamut(WideColorGamut::from(second.color_mode)),
-    );
-    kind_place(out, d, Kind::Hdr(Hdr::from(second.color_mode)))
+    let a = screen_size_place(out, at, layout.screen_layout);
+    let b = screen_long_place(out, a, layout.screen_layout);
+    let c = screen_round_place(out, b, second.screen_layout_2);
+    let d = wide_color_gamut_place(out, c, second.color_mode);
+    hdr_place(out, d, second.color_mode)
 }
 
 // Places 13 to 17: orientation, UI type, night, density and touch.
@@ -91,19 +69,11 @@ fn places_from_13(out: &mut [u8], at: usize, r: ResTableConfig) -> usize
 {
     let screen = r.get_orientation_touchscreen_density();
     let layout = r.get_screen_layout_ui_smallest_width();
-    let a = kind_place(
-        out,
-        at,
-        Kind::Orientation(Orientation::from(screen.orientation)),
-    );
-    let b = kind_place(out, a, Kind::UIMode(UIMode::from(layout.ui_mode)));
-    let c = kind_place(out, b, Kind::UIModeNight(UIModeNight::from(layout.ui_mode)));
-    let d = kind_place(out, c, Kind::Density(Density::from(screen.density)));
-    kind_place(
-        out,
-        d,
-        Kind::Touchscreen(Touchscreen::from(screen.touchscreen)),
-    )
+    let a = orientation_place(out, at, screen.orientation);
+    let b = ui_mode_place(out, a, layout.ui_mode);
+    let c = ui_mode_night_place(out, b, layout.ui_mode);
+    let d = density_place(out, c, screen.density);
+    touchscreen_place(out, d, screen.touchscreen)
 }
 
 // Places 18 to 23: keys and navigation, pixel size and version.
@@ -111,14 +81,10 @@ fn places_from_18(out: &mut [u8], at: usize, r: ResTableConfig) -> usize
     ensures { λ n. ⌜ Says (now (out .entry)) at (drop 18 (placesOf r)) (now (out .exit)) n ⌝ }
 {
     let input = r.get_keyboard_navigation_input_flags();
-    let a = kind_place(
-        out,
-        at,
-        Kind::KeysHidden(KeysHidden::from(input.input_flags)),
-    );
-    let b = kind_place(out, a, Kind::Keyboard(Keyboard::from(input.keyboard)));
-    let c = kind_place(out, b, Kind::NavHidden(NavHidden::from(input.input_flags)));
-    let d = kind_place(out, c, Kind::Navigation(Navigation::from(input.navigation)));
+    let a = keys_hidden_place(out, at, input.input_flags);
+    let b = keyboard_place(out, a, input.keyboard);
+    let c = nav_hidden_place(out, b, input.input_flags);
+    let d = navigation_place(out, c, input.navigation);
     let e = pixel_place(out, d, r);
     version_place(out, e, r)
 }

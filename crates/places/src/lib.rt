@@ -2,6 +2,7 @@
 //
 // `put_text` is machinery: it stops at the buffer's end and refuses nothing.
 mod groups;
+mod kind_places;
 mod put;
 mod said;
 

@@ -1,5 +1,4 @@
 // One place: the dash that stands before it, and its words, where it is said.
-use crate::said::kind_said;
 use buffer::put_between;
 use buffer::put_byte;
 use buffer::put_decimal;
@@ -8,16 +7,17 @@ use kinds::Kind;
 use locale::put_locale;
 use record::ResTableConfig;
 use words::put_words;
-ghost use mathlib.Core.Bool.{cond};
+ghost use mathlib.Core.Bool.{cond, true};
 ghost use mathlib.Core.List.{_∷_, [], _++_};
 ghost use lib.Dec.{ltb};
 ghost use Rattle.buffer.specs.Ascii.{ascii};
 ghost use Rattle.buffer.specs.Decimal.{decimal};
 ghost use Rattle.buffer.specs.Put.{Put};
 ghost use Rattle.locale.specs.Locale.{localeSaid, localeWords};
+ghost use Rattle.words.specs.Words.{wordsOf};
 ghost use Rattle.record.specs.Accessors.{screenWidthHeightOf, sdkMinorVersionOf};
 ghost use Rattle.places.specs.Say.{Says};
-ghost use Rattle.places.specs.Places.{kindPlace, labelPlace, dpPlace, pixelPlace, versionPlace, minorWords};
+ghost use Rattle.places.specs.Places.{labelPlace, dpPlace, pixelPlace, versionPlace, minorWords};
 
 // The dash that stands before a place, unless the place is the first.
 fn dash(out: &mut [u8], at: usize) -> usize
@@ -26,16 +26,12 @@ fn dash(out: &mut [u8], at: usize) -> usize
     if 0 < at { put_byte(out, at, b'-') } else { at }
 }
 
-// A kind's place.
-pub(crate) fn kind_place(out: &mut [u8], at: usize, kind: Kind) -> usize
-    ensures { λ r. ⌜ Says (now (out .entry)) at (kindPlace kind ∷ []) (now (out .exit)) r ⌝ }
+// A kind that is said.
+pub(crate) fn say_kind(out: &mut [u8], at: usize, kind: Kind) -> usize
+    ensures { λ r. ⌜ Says (now (out .entry)) at ((true, wordsOf kind) ∷ []) (now (out .exit)) r ⌝ }
 {
-    if kind_said(kind) {
-        let a = dash(out, at);
-        put_words(out, a, kind)
-    } else {
-        at
-    }
+    let a = dash(out, at);
+    put_words(out, a, kind)
 }
 
 // A number behind a word.

@@ -20,7 +20,7 @@ ghost use mathlib.Core.Path.{_≡_};
 ghost use Rattle.places.specs.Said.{grammaticalGenderSaid, layoutDirSaid, screenSizeSaid, screenLongSaid, screenRoundSaid, wideColorGamutSaid, hdrSaid, orientationSaid, uiModeSaid, uiModeNightSaid, densitySaid, touchscreenSaid, keysHiddenSaid, keyboardSaid, navHiddenSaid, navigationSaid, kindSaid};
 
 // A GrammaticalGender is said unless it is Any.
-fn grammatical_gender_said(kind: GrammaticalGender) -> bool
+pub(crate) fn grammatical_gender_said(kind: GrammaticalGender) -> bool
     ensures { λ r. ⌜ r ≡ grammaticalGenderSaid kind ⌝ }
 {
     match kind {
@@ -32,7 +32,7 @@ fn grammatical_gender_said(kind: GrammaticalGender) -> bool
 }
 
 // A LayoutDir is said unless it is Any.
-fn layout_dir_said(kind: LayoutDir) -> bool
+pub(crate) fn layout_dir_said(kind: LayoutDir) -> bool
     ensures { λ r. ⌜ r ≡ layoutDirSaid kind ⌝ }
 {
     match kind {
@@ -43,7 +43,7 @@ fn layout_dir_said(kind: LayoutDir) -> bool
 }
 
 // A ScreenSize is said unless it is Any.
-fn screen_size_said(kind: ScreenSize) -> bool
+pub(crate) fn screen_size_said(kind: ScreenSize) -> bool
     ensures { λ r. ⌜ r ≡ screenSizeSaid kind ⌝ }
 {
     match kind {
@@ -56,7 +56,7 @@ fn screen_size_said(kind: ScreenSize) -> bool
 }
 
 // A ScreenLong is said unless it is Any.
-fn screen_long_said(kind: ScreenLong) -> bool
+pub(crate) fn screen_long_said(kind: ScreenLong) -> bool
     ensures { λ r. ⌜ r ≡ screenLongSaid kind ⌝ }
 {
     match kind {
@@ -67,7 +67,7 @@ fn screen_long_said(kind: ScreenLong) -> bool
 }
 
 // A ScreenRound is said unless it is Any.
-fn screen_round_said(kind: ScreenRound) -> bool
+pub(crate) fn screen_round_said(kind: ScreenRound) -> bool
     ensures { λ r. ⌜ r ≡ screenRoundSaid kind ⌝ }
 {
     match kind {
@@ -78,7 +78,7 @@ fn screen_round_said(kind: ScreenRound) -> bool
 }
 
 // A WideColorGamut is said unless it is Any.
-fn wide_color_gamut_said(kind: WideColorGamut) -> bool
+pub(crate) fn wide_color_gamut_said(kind: WideColorGamut) -> bool
     ensures { λ r. ⌜ r ≡ wideColorGamutSaid kind ⌝ }
 {
     match kind {
@@ -89,7 +89,7 @@ fn wide_color_gamut_said(kind: WideColorGamut) -> bool
 }
 
 // A Hdr is said unless it is Any.
-fn hdr_said(kind: Hdr) -> bool
+pub(crate) fn hdr_said(kind: Hdr) -> bool
     ensures { λ r. ⌜ r ≡ hdrSaid kind ⌝ }
 {
     match kind {
@@ -100,7 +100,7 @@ fn hdr_said(kind: Hdr) -> bool
 }
 
 // A Orientation is said unless it is Any.
-fn orientation_said(kind: Orientation) -> bool
+pub(crate) fn orientation_said(kind: Orientation) -> bool
     ensures { λ r. ⌜ r ≡ orientationSaid kind ⌝ }
 {
     match kind {
@@ -113,7 +113,7 @@ fn orientation_said(kind: Orientation) -> bool
 }
 
 // A UIMode is said unless it is Any.
-fn ui_mode_said(kind: UIMode) -> bool
+pub(crate) fn ui_mode_said(kind: UIMode) -> bool
     ensures { λ r. ⌜ r ≡ uiModeSaid kind ⌝ }
 {
     match kind {
@@ -130,7 +130,7 @@ fn ui_mode_said(kind: UIMode) -> bool
 }
 
 // A UIModeNight is said unless it is Any.
-fn ui_mode_night_said(kind: UIModeNight) -> bool
+pub(crate) fn ui_mode_night_said(kind: UIModeNight) -> bool
     ensures { λ r. ⌜ r ≡ uiModeNightSaid kind ⌝ }
 {
     match kind {
@@ -142,7 +142,7 @@ fn ui_mode_night_said(kind: UIModeNight) -> bool
 }
 
 // A Density is said unless it is Default.
-fn density_said(kind: Density) -> bool
+pub(crate) fn density_said(kind: Density) -> bool
     ensures { λ r. ⌜ r ≡ densitySaid kind ⌝ }
 {
     match kind {
@@ -161,7 +161,7 @@ fn density_said(kind: Density) -> bool
 }
 
 // A Touchscreen is said unless it is Any.
-fn touchscreen_said(kind: Touchscreen) -> bool
+pub(crate) fn touchscreen_said(kind: Touchscreen) -> bool
     ensures { λ r. ⌜ r ≡ touchscreenSaid kind ⌝ }
 {
     match kind {
@@ -174,7 +174,7 @@ fn touchscreen_said(kind: Touchscreen) -> bool
 }
 
 // A KeysHidden is said unless it is Any.
-fn keys_hidden_said(kind: KeysHidden) -> bool
+pub(crate) fn keys_hidden_said(kind: KeysHidden) -> bool
     ensures { λ r. ⌜ r ≡ keysHiddenSaid kind ⌝ }
 {
     match kind {
@@ -186,7 +186,7 @@ fn keys_hidden_said(kind: KeysHidden) -> bool
 }
 
 // A Keyboard is said unless it is Any.
-fn keyboard_said(kind: Keyboard) -> bool
+pub(crate) fn keyboard_said(kind: Keyboard) -> bool
     ensures { λ r. ⌜ r ≡ keyboardSaid kind ⌝ }
 {
     match kind {
@@ -199,7 +199,7 @@ fn keyboard_said(kind: Keyboard) -> bool
 }
 
 // A NavHidden is said unless it is Any.
-fn nav_hidden_said(kind: NavHidden) -> bool
+pub(crate) fn nav_hidden_said(kind: NavHidden) -> bool
     ensures { λ r. ⌜ r ≡ navHiddenSaid kind ⌝ }
 {
     match kind {
@@ -211,7 +211,7 @@ fn nav_hidden_said(kind: NavHidden) -> bool
 }
 
 // A Navigation is said unless it is Any.
-fn navigation_said(kind: Navigation) -> bool
+pub(crate) fn navigation_said(kind: Navigation) -> bool
     ensures { λ r. ⌜ r ≡ navigationSaid kind ⌝ }
 {
     match kind {

@@ -1,0 +1,155 @@
+//! The benchmark's program: 000 and the port in one process, each call made as often as the caller says.
+//!
+//!   cost list              the name of each case, a line each
+//!   cost same              status 0 where port and Rust answer alike in every case
+//!   cost SIDE CASE N       makes the case's call N times; SIDE is port or rust
+//!
+//! `main` is C's: the kit's emulator can't bear Rust's own start-up.
+#![no_main]
+
+#[path = "../tests/rust/shim.rs"]
+mod shim;
+#[path = "../tests/rust/subject.rs"]
+mod subject;
+
+use std::ffi::{c_char, CStr};
+use std::hint::black_box;
+use subject::{reach, ResTableConfig};
+
+unsafe extern "C" {
+    fn probe_blank(bytes: *const u8, len: usize) -> bool;
+    fn probe_text(bytes: *const u8, len: usize, out: *mut u8, room: usize) -> usize;
+    fn probe_order(a: *const u8, a_len: usize, b: *const u8, b_len: usize) -> u32;
+}
+
+/// A record of 64 bytes: what stands at which place, and zero elsewhere.
+type Parts = &'static [(usize, &'static [u8])];
+
+const BLANK: Parts = &[(0, &[64])];
+const SHORT: Parts = &[(0, &[64]), (8, b"en")];
+const MIDDLE: Parts = &[(0, &[64]), (4, &[54, 1, 4, 0]), (8, b"enUS"), (12, &[1, 1, 224, 1]), (24, &[33])];
+const LONGEST: Parts = &[
+    (0, &[64, 0, 0, 0, 255, 255, 255, 255, 255, 255, 1, 128, 255, 255, 253, 255]),
+    (16, &[255, 255, 13, 3, 255, 255, 255, 255, 255, 255, 255, 255, 82, 63, 255, 255]),
+    (32, &[255; 16]),
+    (48, &[1, 9, 0, 0, 0, 255, 255, 255, 255, 255, 255, 255, 255]),
+];
+
+/// What is called. Each goes from bytes, so a parse counts in all of them, on both sides alike.
+#[derive(Clone, Copy)]
+enum Call {
+    /// Parsing, and the record held against the one that holds nothing, so that every field is looked at.
+    Parse,
+    /// Parsing and text: the Rust's `String`, made and let go, beside the port's lent buffer.
+    Text,
+    /// Two parses and the order of their records; the second has 1 in the byte at this place.
+    Order(usize),
+}
+
+/// Each case: its name, its call, and the record.
+const CASES: [(&str, Call, Parts); 6] = [
+    ("parse", Call::Parse, BLANK),
+    ("text-short", Call::Text, SHORT),
+    ("text-middle", Call::Text, MIDDLE),
+    ("text-longest", Call::Text, LONGEST),
+    ("order-early", Call::Order(7), MIDDLE),
+    ("order-late", Call::Order(63), MIDDLE),
+];
+
+/// The bytes of a case's record, and those of its second one.
+fn bytes_of(call: Call, parts: Parts) -> ([u8; 64], [u8; 64]) {
+    let mut bytes = [0; 64];
+    for (at, part) in parts {
+        bytes[*at..*at + part.len()].copy_from_slice(part);
+    }
+    let mut second = bytes;
+    if let Call::Order(at) = call {
+        second[at] = 1;
+    }
+    (bytes, second)
+}
+
+/// 000's parse of 64 bytes.
+fn parse(bytes: &[u8; 64]) -> ResTableConfig {
+    reach::parse(&mut &bytes[..]).expect("a whole record")
+}
+
+/// What the port's calls answer.
+fn port_blank(a: &[u8; 64]) -> bool {
+    unsafe { probe_blank(a.as_ptr(), 64) }
+}
+
+fn port_text(a: &[u8; 64], out: &mut [u8; 344]) -> usize {
+    unsafe { probe_text(a.as_ptr(), 64, out.as_mut_ptr(), 344) }
+}
+
+fn port_order(a: &[u8; 64], b: &[u8; 64]) -> u32 {
+    unsafe { probe_order(a.as_ptr(), 64, b.as_ptr(), 64) }
+}
+
+/// Makes a call n times, and has the compiler believe that somebody looks at what it gives.
+fn times<A>(n: usize, mut call: impl FnMut() -> A) {
+    for _ in 0..n {
+        black_box(&call());
+    }
+}
+
+/// Makes the Rust's call n times. It may be drawn into the loop, which the port's can't be.
+fn rust_times(call: Call, parts: Parts, n: usize) {
+    let (a, b) = bytes_of(call, parts);
+    let blank = parse(&bytes_of(Call::Parse, BLANK).0);
+    match call {
+        Call::Parse => times(n, || parse(black_box(&a)) == blank),
+        Call::Text => times(n, || parse(black_box(&a)).as_string()),
+        Call::Order(_) => times(n, || parse(black_box(&a)).cmp(&parse(black_box(&b)))),
+    }
+}
+
+/// Makes the port's call n times.
+fn port_times(call: Call, parts: Parts, n: usize) {
+    let (a, b) = bytes_of(call, parts);
+    let mut out = [0u8; 344];
+    match call {
+        Call::Parse => times(n, || port_blank(black_box(&a))),
+        Call::Text => times(n, || port_text(black_box(&a), black_box(&mut out))),
+        Call::Order(_) => times(n, || port_order(black_box(&a), black_box(&b))),
+    }
+}
+
+/// Whether port and Rust answer a case alike: whether it is blank, its text, and the order both ways.
+fn same(call: Call, parts: Parts) -> bool {
+    let (a, b) = bytes_of(call, parts);
+    let blank = parse(&bytes_of(Call::Parse, BLANK).0);
+    let mut out = [0u8; 344];
+    let written = port_text(&a, &mut out);
+    let order = |x, y| parse(x).cmp(&parse(y)) as i32 + 1;
+    port_blank(&a) == (parse(&a) == blank)
+        && out[..written] == *parse(&a).as_string().as_bytes()
+        && port_order(&a, &b) as i32 == order(&a, &b)
+        && port_order(&b, &a) as i32 == order(&b, &a)
+}
+
+/// Does what the words say; 2 where they say nothing known, 1 where port and Rust differ.
+fn run(words: &[&str]) -> i32 {
+    match words {
+        ["list"] => CASES.iter().for_each(|(name, _, _)| println!("{name}")),
+        ["same"] => return CASES.iter().any(|(_, call, parts)| !same(*call, parts)) as i32,
+        [side, name, n] => {
+            let (Some((_, call, parts)), Ok(n)) = (CASES.iter().find(|case| case.0 == *name), n.parse()) else { return 2 };
+            match *side {
+                "port" => port_times(*call, parts, n),
+                "rust" => rust_times(*call, parts, n),
+                _ => return 2,
+            }
+        }
+        _ => return 2,
+    }
+    0
+}
+
+#[unsafe(no_mangle)]
+pub extern "C" fn main(count: i32, words: *const *const c_char) -> i32 {
+    let words: Vec<&str> =
+        (1..count as usize).map(|i| unsafe { CStr::from_ptr(*words.add(i)) }.to_str().unwrap_or("")).collect();
+    run(&words)
+}
