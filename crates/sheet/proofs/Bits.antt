@@ -4,10 +4,11 @@ use mathlib.Core.Path.{_≡_, refl, sym, ap, _∙_}
 use mathlib.Core.Bool.{Bool, true, false}
 use mathlib.Core.List.{List, [], _∷_}
 use native.Mathlib.Omega.{arith}
-use native.Mathlib.Nat.{pow-suc, mul-assoc, mul-comm}
+use native.Mathlib.Nat.{pow-suc, pow-succ', mul-assoc, mul-comm, zero-div, div-div-eq-div-mul}
 use lib.ListN.{take, drop, getD}
 use lib.Seq.{drop-drop}
-use Rattle.sheet.specs.Sheet.{bit, bits}
+use Rattle.record.specs.declared.ResTableConfig.{ResTableConfig}
+use Rattle.sheet.specs.Sheet.{bit, bits, saidOf, sheetOf}
 
 -- a few bits in a row, each equal to its own
 pub bits4 : {a b c d x y z w : ℕ} → a ≡ x → b ≡ y → c ≡ z → d ≡ w → a + 2 * (b + 2 * (c + 2 * d)) ≡ x + 2 * (y + 2 * (z + 2 * (w + 2 * 0)))
@@ -42,3 +43,22 @@ whole l p q r s t =
     let s2 = rw drop-drop at (split 5 (drop 8 l)) in
     let s3 = rw drop-drop at (split 5 (drop 13 l)) in
     omega arith
+
+-- bit k of the number is answer k, and 0 past the last
+pub bit-at : (l : List Bool) (k : ℕ) → bits l / 2 ^ k % 2 ≡ bit (getD l k false)
+bit-at [] zero = refl
+bit-at [] (suc k) = rw (zero-div (2 ^ suc k))
+bit-at (false ∷ l) zero = omega arith
+bit-at (true ∷ l) zero = omega arith
+bit-at (b ∷ l) (suc k) =
+    let h : (bit b + 2 * bits l) / 2 ≡ bits l = half b (bits l) in
+    rw (pow-succ', ← div-div-eq-div-mul, h) (bit-at l k)
+  where
+    half : (b : Bool) (n : ℕ) → (bit b + 2 * n) / 2 ≡ n
+    half false n = omega arith
+    half true n = omega arith
+
+-- so bit k of a sheet's said is 1 where place k of the record is said
+pub said-at : (r : ResTableConfig) (k : ℕ) → sheetOf r .said / 2 ^ k % 2 ≡ bit (getD (saidOf r) k false)
+unfolding sheetOf
+said-at r k = bit-at (saidOf r) k
