@@ -13,7 +13,8 @@ use Rattle.buffer.specs.Put.{Put}
 use Rattle.buffer.proofs.Putting.{put-put, put-nil}
 use Rattle.subtag.specs.declared.utf8.Front.{Front}
 use Rattle.subtag.specs.Utf8.{table, rowOf, within, okAt, matched, judge, frontOf}
-use Rattle.subtag.specs.Subtag.{replacement, pieceOf, sizeOf, Fronted, replacedBy, replaced}
+use Rattle.subtag.specs.Subtag.{replacement, pieceOf, sizeOf, replacedBy, replaced}
+use Rattle.subtag.specs.Steps.{Fronted}
 
 -- a fact of a case, from what the test says
 by-test : {A : Type 0} (P : A → Type 0) (t : Bool) (x y : A) → (t ≡ true → P x) → (t ≡ false → P y) → P (cond t x y)

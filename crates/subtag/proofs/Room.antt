@@ -11,7 +11,8 @@ use lib.Seq.{length-take-le, drop-drop}
 use borrow.Author.Tests.{le-leb, lt-leb}
 use Rattle.subtag.specs.declared.utf8.Front.{Front}
 use Rattle.subtag.specs.Utf8.{frontOf}
-use Rattle.subtag.specs.Subtag.{pieceOf, sizeOf, Measured, replaced}
+use Rattle.subtag.specs.Subtag.{pieceOf, sizeOf, replaced}
+use Rattle.subtag.specs.Steps.{Measured}
 use Rattle.subtag.proofs.Laws.{size-one, size-in, well-in, replaced-more, replaced-none, rest-is}
 
 -- a judged front, measured

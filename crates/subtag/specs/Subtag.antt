@@ -1,11 +1,9 @@
 -- 01, "Text": subtags. Assumes nothing.
 use Prim.Native.Nat.{ℕ, zero, suc}
-use mathlib.Core.Path.{_≡_}
 use mathlib.Core.Bool.{cond}
 use mathlib.Core.List.{List, [], _∷_, _++_}
 use lib.Dec.{eqb}
 use lib.ListN.{length, take, drop}
-use Rattle.buffer.specs.Put.{Put}
 use Rattle.subtag.specs.declared.utf8.Front.{Front}
 use Rattle.subtag.specs.Utf8.{frontOf}
 
@@ -22,16 +20,6 @@ pieceOf (Front.IllFormed n) s = replacement
 abbrev pub sizeOf : Front → ℕ
 sizeOf (Front.WellFormed n) = n
 sizeOf (Front.IllFormed n) = n
-
--- a writer that found the buffer old has put at place at what the front of s becomes, and taken the front: it leaves new and stops at r
-pub record Fronted (old : List ℕ) (at : ℕ) (s : List ℕ) (new : List ℕ) (r taken : ℕ) : Type 0 where
-  pub puts : Put old at (pieceOf (frontOf s) s) new r
-  pub takes : taken ≡ sizeOf (frontOf s)
-
--- the front of s becomes so many bytes, and has so many
-pub record Measured (s : List ℕ) (becomes taken : ℕ) : Type 0 where
-  pub long : becomes ≡ length (pieceOf (frontOf s) s)
-  pub takes : taken ≡ sizeOf (frontOf s)
 
 -- front after front, k of them at the most
 unfoldable pub replacedBy : ℕ → List ℕ → List ℕ

@@ -12,7 +12,8 @@ ghost use lib.Dec.{leb};
 ghost use lib.ListN.{length, take};
 ghost use Rattle.buffer.specs.Put.{Put};
 ghost use Rattle.buffer.specs.Written.{outcome, written};
-ghost use Rattle.subtag.specs.Subtag.{Fronted, Measured, replaced, dropNuls, subtagOf};
+ghost use Rattle.subtag.specs.Subtag.{replaced, dropNuls, subtagOf};
+ghost use Rattle.subtag.specs.Steps.{Fronted, Measured};
 
 // A writer's next place, and how many bytes of its source it has taken.
 struct Moved {
