@@ -1,3 +1,10 @@
 pub mod Rest
 pub mod Steps
 pub mod Walking
+pub mod Stops
+pub mod Readers
+pub mod Alike
+pub mod Showing
+pub mod Demand3
+pub mod OneOutcome
+pub mod Examples

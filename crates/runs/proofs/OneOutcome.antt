@@ -1,0 +1,63 @@
+-- Any two outcomes that a contract of this crate allows for the same input are one. Assumes nothing.
+use Prim.Native.Nat.{ℕ}
+use mathlib.Core.Path.{_≡_, refl, sym, ap, _∙_}
+use mathlib.Core.List.{List}
+use native.Mathlib.Omega.{arith}
+use lib.ListN.{drop}
+use Rattle.answers.specs.declared.Told.{Told}
+use Rattle.answers.specs.declared.Written.{Written}
+use Rattle.answers.proofs.OneOutcome.{one-answer}
+use Rattle.answers.proofs.OneToOne.{number-one, number-pos}
+use Rattle.buffer.specs.Written.{outcome}
+use Rattle.buffer.proofs.OneOutcome.{one-outcome}
+use Rattle.record.specs.declared.ResTableConfig.{ResTableConfig}
+use Rattle.marking.specs.Marks.{marksOutcome}
+use Rattle.text.specs.Text.{agedText}
+use Rattle.runs.specs.declared.Step.{Step}
+use Rattle.runs.specs.declared.Stepped.{Stepped}
+use Rattle.runs.specs.declared.RunEnd.{RunEnd}
+use Rattle.runs.specs.Runs.{StepOutcome, stepOutcome, stepTells, stepOf, runOf}
+
+number : {t u : Told} → t ≡ u → t .number ≡ u .number
+number e = ap (λ (t : Told). t .number) e
+
+amount : {t u : Told} → t ≡ u → t .amount ≡ u .amount
+amount e = ap (λ (t : Told). t .amount) e
+
+-- two answers that tell the same are one
+step-one : (r s : Step) → stepTells r ≡ stepTells s → r ≡ s
+step-one Step.Found Step.Found e = refl
+step-one Step.Ended Step.Ended e = refl
+step-one (Step.Refused v) (Step.Refused w) e = ap Step.Refused (number-one v w (number e))
+step-one Step.Found Step.Ended e = absurd (let z = amount e in omega arith)
+step-one Step.Ended Step.Found e = absurd (let z = amount e in omega arith)
+step-one Step.Found (Step.Refused w) e = absurd (let z = number e in omega (arith, number-pos w))
+step-one Step.Ended (Step.Refused w) e = absurd (let z = number e in omega (arith, number-pos w))
+step-one (Step.Refused v) Step.Found e = absurd (let z = number e in omega (arith, number-pos v))
+step-one (Step.Refused v) Step.Ended e = absurd (let z = number e in omega (arith, number-pos v))
+
+stepped-same : {a b : Step} {n m : ℕ} {r s : ResTableConfig} → a ≡ b → n ≡ m → r ≡ s
+    → _≡_ {A = Stepped} (record { answer = a; next = n; «record» = r }) (record { answer = b; next = m; «record» = s })
+stepped-same p q e = cc
+
+-- of a step: the answer, the place and the record are fixed
+pub one-step : (a : ℕ) (bytes : List ℕ) (p : ℕ) (r s : Stepped) → stepOutcome r ≡ stepOf a bytes p → stepOutcome s ≡ stepOf a bytes p → r ≡ s
+one-step a bytes p r s e f =
+    let h = e ∙ sym f in
+    stepped-same (step-one (r .answer) (s .answer) (ap (λ (o : StepOutcome). o .tells) h)) (ap (λ (o : StepOutcome). o .next) h) (ap (λ (o : StepOutcome). o .gives) h)
+
+-- of `told` and of `walk`: the answer is its definition's value at the input
+pub one-told : (step : Step) (r t : Told) → r ≡ stepTells step → t ≡ stepTells step → r ≡ t
+one-told step r t p q = one-answer stepTells step r t p q
+
+pub one-run : (bytes : List ℕ) (p : ℕ) (r t : RunEnd) → r ≡ runOf bytes p → t ≡ runOf bytes p → r ≡ t
+one-run bytes p r t e f = one-answer (runOf bytes) p r t e f
+
+-- of `text_at` and `marks_at`: the answer and the lent bytes are fixed
+pub one-text : (a : ℕ) (bytes : List ℕ) (p : ℕ) (old : List ℕ) (r s : Written) (x y : List ℕ)
+    → outcome r x ≡ agedText a (drop p bytes) old → outcome s y ≡ agedText a (drop p bytes) old → (r ≡ s) × (x ≡ y)
+one-text a bytes p old r s x y e f = one-outcome e f
+
+pub one-marks : (a : ℕ) (bytes : List ℕ) (p : ℕ) (old : List ℕ) (r s : Written) (x y : List ℕ)
+    → outcome r x ≡ marksOutcome a (drop p bytes) old → outcome s y ≡ marksOutcome a (drop p bytes) old → (r ≡ s) × (x ≡ y)
+one-marks a bytes p old r s x y e f = one-outcome e f
