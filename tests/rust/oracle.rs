@@ -1,5 +1,6 @@
 //! The Rust side of the comparison: makes questions, answers them by 000, and compares the port's answers with its own.
 mod kinds;
+mod listing;
 mod payloads;
 mod questions;
 mod records;
@@ -17,7 +18,8 @@ const USAGE: &str = "usage: oracle programs
        oracle make PROGRAM SEED
        oracle fixed PROGRAM
        oracle answer PROGRAM
-       oracle compare PROGRAM QUESTIONS EXPECTED GOT";
+       oracle compare PROGRAM QUESTIONS EXPECTED GOT
+       oracle runs FOLDER COUNT SEED";
 
 /// Does what the first word says; a failure is one message and status 1.
 fn main() -> ExitCode {
@@ -29,6 +31,7 @@ fn main() -> ExitCode {
         ["fixed", program] => answered_by(program).and_then(|table| write(&frames(&questions::fixed(table)))),
         ["answer", program] => answer(program),
         ["compare", program, questions, expected, got] => compare(program, questions, expected, got),
+        ["runs", folder, count, seed] => runs(folder, count, seed),
         _ => Err(USAGE.into()),
     };
     match done {
@@ -50,6 +53,18 @@ fn programs() -> Result<(), String> {
 fn make(program: &str, seed: &str) -> Result<(), String> {
     let seed = seed.parse().map_err(|_| format!("{seed} is no seed"))?;
     write(&frames(&questions::full(answered_by(program)?, seed)))
+}
+
+/// Writes runs to a folder, each as N.run, and beside it the listing by 01's rules at age 64 as N.lines.
+fn runs(folder: &str, count: &str, seed: &str) -> Result<(), String> {
+    let number = |word: &str| word.parse::<u64>().map_err(|_| format!("{word} is no number"));
+    let runs = listing::runs(&mut questions::Random(number(seed)?), number(count)? as usize);
+    let file = |name: String, bytes: &[u8]| std::fs::write(format!("{folder}/{name}"), bytes).map_err(|e| format!("{name}: {e}"));
+    for (at, run) in runs.iter().enumerate() {
+        file(format!("{at}.run"), run)?;
+        file(format!("{at}.lines"), listing::listing(run, 64).as_bytes())?;
+    }
+    Ok(())
 }
 
 /// Writes bytes to standard output.

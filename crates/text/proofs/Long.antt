@@ -15,13 +15,23 @@ use Rattle.buffer.proofs.Digits.{decimal-long}
 use Rattle.record.specs.declared.ResTableConfig.{ResTableConfig}
 use Rattle.record.proofs.ResTableConfig as config
 use Rattle.locale.specs.Locale.{localeSaid, localeWords}
-use Rattle.locale.proofs.Long.{locale-long, sized}
+use Rattle.locale.proofs.Long.{Sized, locale-long, sized}
 use Rattle.places.specs.Places.{some, minorWords, pixelPlace, versionPlace, placesOf, textOf}
 use Rattle.text.proofs.Cost.{cost, total, first-long, Within, sum, within-total, words-cost, label-cost, dp-cost, gender-cost, layout-dir-cost, screen-size-cost, screen-long-cost, screen-round-cost, wide-color-gamut-cost, hdr-cost, orientation-cost, ui-mode-cost, ui-mode-night-cost, density-cost, touchscreen-cost, keys-hidden-cost, keyboard-cost, nav-hidden-cost, navigation-cost}
 
 -- what the type of a word says
-abbrev Word : ℕ → Type 0
+abbrev pub Word : ℕ → Type 0
 Word w = w < 4294967296
+
+-- what the types say of a record's words and arrays
+pub record Ranged (r : ResTableConfig) : Type 0 where
+  pub imsi : Word (r .imsi)
+  pub screen : Word (r .«screen_type»)
+  pub pixels : Word (r .«screen_size»)
+  pub version : Word (r .version)
+  pub config : Word (r .«screen_config»)
+  pub dp : Word (r .«screen_size_dp»)
+  pub sized : Sized r
 
 code-cost : (front : List ℕ) (n : ℕ) → n < 65536 → cost (some n, front ++ decimal n) ≤ 1 + (length front + 5)
 code-cost front n h = label-cost (some n) front n 5 (decimal-long 4 n (omega arith))
@@ -51,21 +61,19 @@ abbrev costs : List ℕ
 costs =
     9 ∷ 9 ∷ 85 ∷ 10 ∷ 6 ∷ 10 ∷ 9 ∷ 9 ∷ 7 ∷ 8 ∷ 9 ∷ 9 ∷ 7 ∷ 16 ∷ 14 ∷ 15 ∷ 9 ∷ 16 ∷ 12 ∷ 13 ∷ 23 ∷ 15 ∷ 12 ∷ 13 ∷ []
 
-module _ (r : ResTableConfig) (vs : List Val) (h : Is config.the-row r vs) where
+module _ (r : ResTableConfig) (h : Ranged r) where
   within : Within (placesOf r) costs
   unfolding placesOf
   within =
-      let imsi : Word (r .imsi) = search needs in
-      let config : Word (r .«screen_config») = search needs in
-      let dp : Word (r .«screen_size_dp») = search needs in
-      let screen : Word (r .«screen_type») = search needs in
-      let size : Word (r .«screen_size») = search needs in
-      let version : Word (r .version) = search needs in (
+      let imsi = h .imsi in
+      let config = h .config in
+      let dp = h .dp in
+      let screen = h .screen in (
         code-cost (ascii "mcc") (r .imsi % 65536) (omega arith),
         (
           code-cost (ascii "mnc") (r .imsi / 65536) (omega arith),
           (
-            words-cost (localeSaid r) (localeWords r) 84 (locale-long r (sized r vs h)),
+            words-cost (localeSaid r) (localeWords r) 84 (locale-long r (h .sized)),
             (
               gender-cost (r .«generic_purpose_field» / 16777216),
               (
@@ -105,9 +113,9 @@ module _ (r : ResTableConfig) (vs : List Val) (h : Is config.the-row r vs) where
                                                 (
                                                   navigation-cost (r .«generic_purpose_field» / 256 % 256) (omega arith),
                                                   (
-                                                    pixel-cost r size,
+                                                    pixel-cost r (h .pixels),
                                                     (
-                                                      version-cost r version,
+                                                      version-cost r (h .version),
                                                       tt,
                                                     ),
                                                   ),
@@ -134,7 +142,21 @@ module _ (r : ResTableConfig) (vs : List Val) (h : Is config.the-row r vs) where
         ),
       )
 
-  -- no text is longer, for every record that the type has
-  pub text-long : length (textOf r) ≤ 344
+  -- no text is longer
+  pub ranged-long : length (textOf r) ≤ 344
   unfolding textOf
-  text-long = omega (arith, first-long (placesOf r), within-total (placesOf r) costs within)
+  ranged-long = omega (arith, first-long (placesOf r), within-total (placesOf r) costs within)
+
+-- for every record that the type has
+pub text-long : (r : ResTableConfig) (vs : List Val) → Is config.the-row r vs → length (textOf r) ≤ 344
+text-long r vs h =
+    ranged-long r
+    (record {
+      imsi = search needs;
+      screen = search needs;
+      pixels = search needs;
+      version = search needs;
+      config = search needs;
+      dp = search needs;
+      sized = sized r vs h;
+    })

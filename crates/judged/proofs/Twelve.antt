@@ -1,0 +1,25 @@
+-- The twelve judged examples are as 01 asks. Assumes nothing.
+use Prim.Native.Nat.{ℕ}
+use mathlib.Core.Path.{_≡_, refl}
+use mathlib.Core.List.{List, [], _∷_, map}
+use Rattle.buffer.specs.Decimal.{digits, decimal}
+use Rattle.buffer.specs.Written.{written}
+use Rattle.subtag.specs.Utf8.{okAt, frontOf}
+use Rattle.subtag.specs.Subtag.{replacedBy, replaced, keep, dropNuls, subtagOf}
+use Rattle.record.specs.Ages.{isAge}
+use Rattle.reading.specs.Reading.{reads, fieldBy, recordBy, plain, aged, ifWhole, ifAge}
+use Rattle.marking.specs.Marks.{heldBack}
+use Rattle.locale.specs.Locale.{unpacked, legacyWords, newWords, localeWords}
+use Rattle.places.specs.Say.{say, dashAfter, sayAll}
+use Rattle.places.specs.Places.{placesOf, textOf}
+use Rattle.sheet.specs.Sheet.{saidOf, sheetOf}
+use Rattle.judged.specs.Judged.{Example, table}
+
+-- they are 01's, from 1 to 12
+pub numbered : map (λ (e : Example). e .number) table ≡ 1 ∷ 2 ∷ 3 ∷ 4 ∷ 5 ∷ 6 ∷ 7 ∷ 8 ∷ 9 ∷ 10 ∷ 11 ∷ 12 ∷ []
+numbered = refl
+
+-- what the definitions give is what 01 asks, in every row
+pub judged : map (λ (e : Example). e .given) table ≡ map (λ (e : Example). e .asked) table
+unfolding reads fieldBy recordBy plain aged ifWhole ifAge isAge heldBack written textOf placesOf sayAll say dashAfter localeWords newWords legacyWords unpacked subtagOf dropNuls keep replaced replacedBy frontOf okAt decimal digits saidOf sheetOf
+judged = refl

@@ -1,0 +1,121 @@
+-- What a call for a line comes to, for each cursor and each of its answers. Assumes nothing.
+use Prim.Native.Nat.{ℕ, suc, _+_, _-_, _≤_, _<_, min}
+use mathlib.Core.Path.{_≡_, refl, sym, ap, _∙_}
+use mathlib.Core.Bool.{Bool, true, false, cond}
+use mathlib.Core.List.{List, []}
+use native.Mathlib.Omega.{arith}
+use native.Mathlib.Numerals.{add-one}
+use native.Mathlib.Decide.{decLe}
+use lib.Dec.{eqb, leb}
+use lib.ListN.{length, take, drop, length-drop, drop-of-length-le}
+use lib.Seq.{take-all, take-nil, drop-length}
+use borrow.Author.Tests.{lt-ltb, le-ltb, le-leb}
+use Rattle.answers.specs.declared.Refusal.{Refusal}
+use Rattle.answers.specs.declared.Taken.{Taken}
+use Rattle.answers.specs.declared.Written.{Written}
+use Rattle.answers.specs.Numbers.{numberOf}
+use Rattle.answers.specs.Tells.{success, refusal, takenTells, writtenTells}
+use Rattle.buffer.specs.Written.{outcome, written}
+use Rattle.buffer.proofs.Writing.{written-fits}
+use Rattle.record.specs.Ages.{isAge}
+use Rattle.reading.specs.Reading.{amountOf, taken, ifWhole, ifAge}
+use Rattle.reading.proofs.Whole.{age-known, age-unknown, took-says, took-whole, refused-whole}
+use Rattle.runs.specs.Runs.{reasonAt}
+use Rattle.lines.specs.declared.Cursor.{Cursor}
+use Rattle.lines.specs.declared.Lined.{Lined}
+use Rattle.lines.specs.Lines.{LineOutcome, ageLine, stopLine, recordLine, lineAt, after, linedOutcome, lineRefused, lineWritten, lineOf}
+use Rattle.lines.proofs.Answers.{went}
+
+-- the bytes from a place on, which may be past their end
+pub rest-is : (s : List ℕ) (p from : ℕ) → from ≡ min p (length s) → take (length s - from) (drop from s) ≡ drop p s
+rest-is s p from e =
+    elim (decLe p (length s)) [
+      | yes h ↦ let f : from ≡ p = omega arith in rw f (take-all (length s - p) (drop p s) (omega (arith, length-drop p s)))
+      | no h ↦ let f : from ≡ length s = omega arith in
+          rw (f, drop-length s, drop-of-length-le s {i = p} (omega arith)) (take-nil (length s - length s))
+    ]
+
+-- what `amount` answers of them
+module _ (p : ℕ) (s rest : List ℕ) (is : rest ≡ drop p s) (amount : Taken) (told : takenTells amount ≡ amountOf rest) where
+  pub took : (t : ℕ) → amount ≡ Taken.Took t → success t ≡ amountOf rest
+  took t e = rw e at told
+
+  -- a record that stands there whole lies within the bytes
+  pub within : (t : ℕ) → amount ≡ Taken.Took t → length s ≤ 65536 → (p + length rest ≤ 65536) × (p + t ≤ 65536)
+  within t e h =
+      let w = took-says rest t (took t e) in
+      let n : length rest ≡ length s - p = ap length is ∙ length-drop p s in
+      let a = w .0 in
+      let b = w .1 in (omega arith, omega arith)
+
+-- the empty line is written to any buffer, and none of its bytes changes
+none-written : (c next : Cursor) (old : List ℕ) → linedOutcome (record { answer = Written.Wrote 0; cursor = next }) old ≡ lineWritten [] c next old
+none-written c next old =
+    let h : 0 ≤ length old = omega arith in rw (written-fits [] old h, le-leb 0 (length old) h)
+
+-- the call at an index and a place, behind 7 and 3
+module _ (a i p : ℕ) (s old : List ℕ) where
+  abbrev pub here : Cursor
+  here = Cursor.Record i p
+
+  abbrev pub came : LineOutcome
+  came = lineWritten (lineAt a s here) here (after s here) old
+
+  -- an index past its place
+  pub past-place : p < i → linedOutcome (record { answer = Written.Wrote 0; cursor = Cursor.End }) old ≡ came
+  unfolding lineAt after
+  past-place h = rw (lt-ltb p i h) (none-written here Cursor.End old)
+
+  -- the bytes from the place on, and what `amount` answers of them
+  module _ (rest : List ℕ) (is : rest ≡ drop p s) (amount : Taken) (told : takenTells amount ≡ amountOf rest) where
+    module _ (h : i ≤ p) (answer : Written) (new : List ℕ) (lined : Lined) where
+      -- a record stands there whole
+      pub record-went : (t : ℕ) → amount ≡ Taken.Took t → outcome answer new ≡ written (recordLine a i p rest) old
+          → (lined .answer ≡ answer) × (lined .cursor ≡ cond (eqb (writtenTells answer .number) 0) (Cursor.Record (i + 1) (p + t)) here)
+          → linedOutcome lined new ≡ came
+      unfolding lineAt after
+      record-went t e o g =
+          let w = took p s rest is amount told t e in
+          rw (le-ltb p i h, ← is, took-whole rest _ _ t w, took-whole rest _ _ t w, ← took-says rest t w .0, ← add-one i)
+          (went _ old here _ answer new lined o g)
+
+      -- none does
+      pub stop-went : (why : Refusal) (number : ℕ) → amount ≡ Taken.Refused why → number ≡ cond (eqb p (length s)) 0 (numberOf why)
+          → outcome answer new ≡ written (stopLine p number) old
+          → (lined .answer ≡ answer) × (lined .cursor ≡ cond (eqb (writtenTells answer .number) 0) Cursor.End here)
+          → linedOutcome lined new ≡ came
+      unfolding lineAt after reasonAt
+      stop-went why number e n o g =
+          let w : refusal (numberOf why) ≡ amountOf rest = rw e at told in
+          rw (le-ltb p i h, ← is, refused-whole rest _ _ why w, refused-whole rest _ _ why w, refused-whole rest _ _ why w, ← n)
+          (went _ old here _ answer new lined o g)
+
+-- the whole call
+module _ (a : ℕ) (s : List ℕ) (c : Cursor) (old : List ℕ) where
+  -- 7 comes first
+  pub too-much : 65536 < length s → lineRefused Refusal.TooMuchInput c old ≡ lineOf a s c old
+  unfolding lineOf
+  too-much h = rw (lt-ltb 65536 (length s) h)
+
+  module _ (h : length s ≤ 65536) where
+    -- then 3
+    pub no-age : false ≡ isAge a → lineRefused Refusal.NotAnAge c old ≡ lineOf a s c old
+    unfolding lineOf
+    no-age e = rw (le-ltb 65536 (length s) h) (sym (age-unknown a _ _ e))
+
+    -- then the line
+    pub at-age : true ≡ isAge a → lineOf a s c old ≡ lineWritten (lineAt a s c) c (after s c) old
+    unfolding lineOf
+    at-age e = rw (le-ltb 65536 (length s) h) (age-known a _ _ e)
+
+-- the first line, and behind the last
+module _ (a : ℕ) (s old : List ℕ) where
+  pub start-went : (answer : Written) (new : List ℕ) (lined : Lined) → outcome answer new ≡ written (ageLine a) old
+      → (lined .answer ≡ answer) × (lined .cursor ≡ cond (eqb (writtenTells answer .number) 0) (Cursor.Record 0 0) Cursor.Start)
+      → linedOutcome lined new ≡ lineWritten (lineAt a s Cursor.Start) Cursor.Start (after s Cursor.Start) old
+  unfolding lineAt after
+  start-went answer new lined o g = went _ old Cursor.Start _ answer new lined o g
+
+  pub end-stays : linedOutcome (record { answer = Written.Wrote 0; cursor = Cursor.End }) old ≡ lineWritten (lineAt a s Cursor.End) Cursor.End (after s Cursor.End) old
+  unfolding lineAt after
+  end-stays = none-written Cursor.End Cursor.End old

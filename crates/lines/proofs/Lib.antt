@@ -1,0 +1,5 @@
+pub mod Escapes
+pub mod Ranges
+pub mod Bounds
+pub mod Answers
+pub mod Cases

@@ -1,0 +1,65 @@
+-- What a reader gives of some bytes is in the ranges of its types, so that no text of it is longer than 344. Assumes nothing.
+use Prim.Native.Nat.{ℕ, zero, suc, _+_, _*_, _^_, _≤_, _<_}
+use mathlib.Core.Path.{_≡_, refl, sym, ap}
+use mathlib.Core.Bool.{Bool, true, false, cond}
+use mathlib.Core.List.{List, [], _∷_}
+use native.Mathlib.Omega.{arith}
+use native.Mathlib.Decide.{decLt}
+use lib.ListN.{length, getD, drop, replicate, length-take, length-replicate, drop-of-length-le}
+use lib.Seq.{drop-cons}
+use Rattle.record.specs.Table.{part, le, startOf, widthOf}
+use Rattle.reading.specs.Reading.{fieldBy, recordBy, aged}
+use Rattle.places.specs.Places.{textOf}
+use Rattle.text.proofs.Long.{Ranged, ranged-long}
+
+-- each element is a byte
+abbrev pub Bytes : List ℕ → Type 0
+Bytes s = (i : ℕ) → getD s i 0 < 256
+
+-- the number of n bytes
+pub part-below : (n a : ℕ) (s : List ℕ) → Bytes s → le (part s a n) < 256 ^ n
+part-below zero a s h = omega arith
+part-below (suc n) a s h =
+    elim (decLt a (length s)) [
+      | yes l ↦ rw (drop-cons s a 0 l) (omega (arith, h a, part-below n (suc a) s h))
+      | no l ↦ rw (drop-of-length-le s {i = a} (omega arith)) (omega (arith, part-below n (suc a) s h))
+    ]
+
+zeros-none : (n : ℕ) → le (replicate n 0) ≡ 0
+zeros-none zero = refl
+zeros-none (suc n) = omega (arith, zeros-none n)
+
+module _ (p : ℕ → Bool) (s : List ℕ) (f : ℕ) where
+  -- a field has no more bytes than its width
+  field-wide : length (fieldBy p s f) ≤ widthOf f
+  unfolding fieldBy
+  field-wide = chosen (p f) where
+    chosen : (t : Bool) → length (cond t (part s (startOf f) (widthOf f)) (replicate (widthOf f) 0)) ≤ widthOf f
+    chosen true = omega (arith, length-take (widthOf f) (drop (startOf f) s))
+    chosen false = omega (arith, length-replicate {A = ℕ} (widthOf f) 0)
+
+  -- and its number is as small as they make it
+  field-below : Bytes s → le (fieldBy p s f) < 256 ^ widthOf f
+  unfolding fieldBy
+  field-below h = chosen (p f) where
+    chosen : (t : Bool) → le (cond t (part s (startOf f) (widthOf f)) (replicate (widthOf f) 0)) < 256 ^ widthOf f
+    chosen true = part-below (widthOf f) (startOf f) s h
+    chosen false = omega (arith, zeros-none (widthOf f), part-below (widthOf f) (startOf f) s h)
+
+module _ (p : ℕ → Bool) (s : List ℕ) (h : Bytes s) where
+  ranged : Ranged (recordBy p s)
+  unfolding recordBy
+  ranged = record {
+    imsi = field-below p s 1 h;
+    screen = field-below p s 3 h;
+    pixels = field-below p s 5 h;
+    version = field-below p s 6 h;
+    config = field-below p s 7 h;
+    dp = field-below p s 8 h;
+    sized = record { word = field-below p s 2 h; script = field-wide p s 9; variant = field-wide p s 10; numbering = field-wide p s 13 };
+  }
+
+-- no text of what a reader gives is longer
+pub aged-long : (a : ℕ) (s : List ℕ) → Bytes s → length (textOf (aged a s)) ≤ 344
+unfolding aged
+aged-long a s h = ranged-long _ (ranged _ s h)

@@ -1,0 +1,28 @@
+-- The line is put together in a buffer of its own, which holds it, and then written. Assumes nothing.
+use mathlib.Core.Path.{sym, _∙_}
+use native.Mathlib.Omega.{arith}
+use lib.Seq.{length-take-le}
+use borrow.Author.Needs.{needs}
+use Rattle.buffer.proofs.Digits.{decimal-long}
+use Rattle.buffer.proofs.Putting.{put-most}
+use Rattle.buffer.proofs.Writing.{copied}
+use Rattle.lines.specs.Lines.{ageLine}
+use Rattle.lines.proofs.Bounds.{age-long}
+use Rattle.lines.proofs.age_line.Statement.{statement}
+use Rattle.lines.proofs.age_line.Tie as tie
+
+returns : tie.Need-returns
+unfolding ageLine
+returns c =
+    let a = c .before .before .before .before .before .before .before .before .before .before .before .before .args .age .0 in
+    c .before .before .write .ensures ∙ copied _ (age-long 9 a (decimal-long 9 a (omega arith))) (c .before .before .before .before .before .before .put-between .ensures)
+
+pub age-line-spec : {M : Type 1} → statement M
+age-line-spec =
+    tie.close
+    (tie.spec
+    (λ c. search needs) (λ c. search needs) (λ c. search needs) (λ c. search needs) (λ c κs. search needs)
+    (λ c. put-most (c .before .before .put-between .ensures) (search needs) .1)
+    (λ c. sym (length-take-le _ _ (put-most (c .before .before .before .put-between .ensures) (search needs) .1)))
+    (λ c κs. search needs) (λ c. search needs)
+    returns)

@@ -1,0 +1,97 @@
+-- 01, "The listing": its lines, the calls that give one line at a time, and the whole. Assumes nothing.
+use Prim.Native.Nat.{ℕ, suc, _+_}
+use mathlib.Core.List.{List, [], _∷_, _++_}
+use mathlib.Core.Bool.{cond}
+use lib.Dec.{leb, ltb}
+use lib.ListN.{length, drop}
+use Rattle.answers.specs.declared.Refusal.{Refusal}
+use Rattle.buffer.specs.Ascii.{ascii}
+use Rattle.buffer.specs.Decimal.{decimal}
+use Rattle.buffer.specs.Written.{Outcome, outcome, written, refused}
+use Rattle.reading.specs.Reading.{sizeOf, taken, ifWhole, ifAge}
+use Rattle.marking.specs.Marks.{marksOf}
+use Rattle.runs.specs.Runs.{offsetsOf, stopOf, reasonAt}
+use Rattle.lines.specs.declared.Cursor.{Cursor}
+use Rattle.lines.specs.declared.Lined.{Lined}
+use Rattle.lines.specs.Shown.{shownText}
+
+-- each line is ended by one newline
+abbrev pub newline : List ℕ
+newline = 10 ∷ []
+
+-- what stands between the parts of a line
+abbrev pub space : List ℕ
+space = ascii " "
+
+-- the first line has the age
+unfoldable pub ageLine : ℕ → List ℕ
+ageLine a = ascii "age " ++ decimal a ++ newline
+
+-- the last line has the offset where the run stopped, and its number
+unfoldable pub stopLine : ℕ → ℕ → List ℕ
+stopLine p n = ascii "stop " ++ decimal p ++ space ++ decimal n ++ newline
+
+-- the line of the record at the front of r, for a reader of age a: index, offset, declared size, marks in field order, text
+unfoldable pub recordLine : ℕ → ℕ → ℕ → List ℕ → List ℕ
+recordLine a i p r =
+    decimal i ++ space ++ decimal p ++ space ++ decimal (sizeOf r) ++ space ++ marksOf a r ++ space ++ shownText a r ++ newline
+
+-- the line at a cursor of s: the age at the start; at index i and place p the record that stands there whole, else the stop; at
+-- the end none, and none where the index is past the place, as in no listing
+unfoldable pub lineAt : ℕ → List ℕ → Cursor → List ℕ
+lineAt a s Cursor.Start = ageLine a
+lineAt a s (Cursor.Record i p) =
+    cond (ltb p i) [] (ifWhole (drop p s) (λ why. stopLine p (reasonAt s p)) (recordLine a i p (drop p s)))
+lineAt a s Cursor.End = []
+
+-- the cursor behind that line: a record's is followed by the next index, T bytes further on
+unfoldable pub after : List ℕ → Cursor → Cursor
+after s Cursor.Start = Cursor.Record 0 0
+after s (Cursor.Record i p) =
+    cond (ltb p i) Cursor.End (ifWhole (drop p s) (λ why. Cursor.End) (Cursor.Record (suc i) (p + taken (drop p s))))
+after s Cursor.End = Cursor.End
+
+-- what a call for a line comes to: what it tells and leaves, and the cursor with which the listing goes on
+pub record LineOutcome : Type 0 where
+  pub does : Outcome
+  pub goes : Cursor
+
+-- what an answer with its cursor and a buffer come to
+abbrev pub linedOutcome : Lined → List ℕ → LineOutcome
+linedOutcome lined buffer = record { does = outcome (lined .answer) buffer; goes = lined .cursor }
+
+-- a refused call gives back the cursor that came in
+abbrev pub lineRefused : Refusal → Cursor → List ℕ → LineOutcome
+lineRefused why c old = record { does = refused why old; goes = c }
+
+-- a line w is written and the listing goes on at next; where the lent buffer is shorter than w, it is refused with 5 and stays at c
+abbrev pub lineWritten : List ℕ → Cursor → Cursor → List ℕ → LineOutcome
+lineWritten w c next old = record { does = written w old; goes = cond (leb (length w) (length old)) next c }
+
+-- a call for the line at cursor c of s, for a reader of age a: 7, 3, then 5
+unfoldable pub lineOf : ℕ → List ℕ → Cursor → List ℕ → LineOutcome
+lineOf a s c old =
+    cond (ltb 65536 (length s)) (lineRefused Refusal.TooMuchInput c old)
+    (ifAge a (λ why. lineRefused why c old) (lineWritten (lineAt a s c) c (after s c) old))
+
+-- a row of calls, one for each of the lent buffers, each going on with the cursor that the one before gave back
+unfoldable pub callsOf : ℕ → List ℕ → Cursor → List (List ℕ) → List Outcome
+callsOf a s c [] = []
+callsOf a s c (old ∷ olds) = lineOf a s c old .does ∷ callsOf a s (lineOf a s c old .goes) olds
+
+-- the cursor that the last of them gave back
+unfoldable pub cursorOf : ℕ → List ℕ → Cursor → List (List ℕ) → Cursor
+cursorOf a s c [] = c
+cursorOf a s c (old ∷ olds) = cursorOf a s (lineOf a s c old .goes) olds
+
+-- the lines of the records of s at some offsets, with the indices from i on
+unfoldable pub recordLines : ℕ → List ℕ → ℕ → List ℕ → List (List ℕ)
+recordLines a s i [] = []
+recordLines a s i (p ∷ ps) = recordLine a i p (drop p s) ∷ recordLines a s (suc i) ps
+
+-- the listing of s at age a: the age, a line for each record of the run, and where it stopped; too much input has no record lines
+-- and stops at 0 with 7
+unfoldable pub listingOf : ℕ → List ℕ → List (List ℕ)
+listingOf a s =
+    cond (ltb 65536 (length s)) (ageLine a ∷ stopLine 0 7 ∷ [])
+    (ageLine a ∷ recordLines a s 0 (offsetsOf s 0) ++ (stopLine (stopOf s 0) (reasonAt s (stopOf s 0)) ∷ []))
