@@ -19,7 +19,8 @@ const USAGE: &str = "usage: oracle programs
        oracle fixed PROGRAM
        oracle answer PROGRAM
        oracle compare PROGRAM QUESTIONS EXPECTED GOT
-       oracle runs FOLDER COUNT SEED";
+       oracle runs FOLDER COUNT SEED
+       oracle listing";
 
 /// Does what the first word says; a failure is one message and status 1.
 fn main() -> ExitCode {
@@ -31,6 +32,7 @@ fn main() -> ExitCode {
         ["fixed", program] => answered_by(program).and_then(|table| write(&frames(&questions::fixed(table)))),
         ["answer", program] => answer(program),
         ["compare", program, questions, expected, got] => compare(program, questions, expected, got),
+        ["listing"] => input().and_then(|bytes| write(listing::listing(&bytes, 64).as_bytes())),
         ["runs", folder, count, seed] => runs(folder, count, seed),
         _ => Err(USAGE.into()),
     };
@@ -67,6 +69,13 @@ fn runs(folder: &str, count: &str, seed: &str) -> Result<(), String> {
     Ok(())
 }
 
+/// All of standard input.
+fn input() -> Result<Vec<u8>, String> {
+    let mut bytes = Vec::new();
+    std::io::stdin().read_to_end(&mut bytes).map_err(|e| e.to_string())?;
+    Ok(bytes)
+}
+
 /// Writes bytes to standard output.
 fn write(bytes: &[u8]) -> Result<(), String> {
     std::io::stdout().write_all(bytes).map_err(|e| e.to_string())
@@ -84,9 +93,7 @@ fn hex(bytes: &[u8]) -> String {
 
 /// Answers a program's questions of standard input, a line of hexadecimal digits to each.
 fn answer(program: &str) -> Result<(), String> {
-    let mut bytes = Vec::new();
-    std::io::stdin().read_to_end(&mut bytes).map_err(|e| e.to_string())?;
-    let questions = questions::read(answered_by(program)?, &bytes)?;
+    let questions = questions::read(answered_by(program)?, &input()?)?;
     let lines: String = questions.iter().map(|question| hex(&question.answer()) + "\n").collect();
     write(lines.as_bytes())
 }
