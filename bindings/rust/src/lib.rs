@@ -1,0 +1,178 @@
+//! Android's resource configuration records, over the proved crate `intake` (`include/res_table_config.h` is its C face).
+//!
+//! Five functions on slices. Each takes every input: what it can't do it refuses with a [`Refusal`], and a refusal writes
+//! nothing. Ages are plain numbers; twelve of them are ages.
+//!
+//! ```
+//! let record = *b"\x10\0\0\0\x36\x01\0\0enUS\x01\0\xf0\0";
+//! let mut out = [0; res_table_config::TEXT_MOST];
+//! let text = res_table_config::text(&record, &mut out)?;
+//! assert_eq!(text, b"mcc310-en-rUS-port-hdpi");
+//! # Ok::<(), res_table_config::Refusal>(())
+//! ```
+
+use std::cmp::Ordering;
+use std::fmt;
+
+/// How many bytes the longest text has: with as much room, [`text`] and [`aged_text`] never refuse with
+/// [`Refusal::ShortBuffer`].
+pub const TEXT_MOST: usize = 344;
+
+/// How many marks a record has: one for each field after its size.
+pub const MARKS: usize = 14;
+
+/// Why a call is refused. The functions of this crate give the first five.
+#[derive(Clone, Copy, Debug, PartialEq, Eq, Hash)]
+pub enum Refusal {
+    /// There are fewer than 16 bytes.
+    FewerThan16,
+    /// There are 16 bytes or more, and fewer than the record's size.
+    FewerThanSize,
+    /// The age is not among the twelve.
+    NotAnAge,
+    /// A byte of the record at offset age or later isn't zero.
+    HeldBack,
+    /// The lent buffer is shorter than what is to be written.
+    ShortBuffer,
+    /// A field that isn't read at the record's size isn't zero.
+    UnreadField,
+    /// There are more than 65,536 bytes of input.
+    TooMuchInput,
+}
+
+impl Refusal {
+    /// Every refusal, by its number from 1.
+    const ALL: [Refusal; 7] = [
+        Refusal::FewerThan16,
+        Refusal::FewerThanSize,
+        Refusal::NotAnAge,
+        Refusal::HeldBack,
+        Refusal::ShortBuffer,
+        Refusal::UnreadField,
+        Refusal::TooMuchInput,
+    ];
+
+    /// The refusal's number, from 1 to 7.
+    ///
+    /// ```
+    /// assert_eq!(res_table_config::Refusal::HeldBack.number(), 4);
+    /// ```
+    pub fn number(self) -> u32 {
+        self as u32 + 1
+    }
+}
+
+impl fmt::Display for Refusal {
+    fn fmt(&self, f: &mut fmt::Formatter<'_>) -> fmt::Result {
+        f.write_str(match self {
+            Refusal::FewerThan16 => "fewer than 16 bytes",
+            Refusal::FewerThanSize => "fewer bytes than the record's size",
+            Refusal::NotAnAge => "not one of the twelve ages",
+            Refusal::HeldBack => "held back: a byte past the age isn't zero",
+            Refusal::ShortBuffer => "the buffer is too short",
+            Refusal::UnreadField => "a field that isn't read isn't zero",
+            Refusal::TooMuchInput => "more than 65,536 bytes of input",
+        })
+    }
+}
+
+impl std::error::Error for Refusal {}
+
+mod face {
+    unsafe extern "C" {
+        pub fn res_table_config_take(bytes: *const u8, len: usize) -> u64;
+        pub fn res_table_config_text(bytes: *const u8, len: usize, out: *mut u8, cap: usize) -> u64;
+        pub fn res_table_config_aged_text(bytes: *const u8, len: usize, age: u32, out: *mut u8, cap: usize) -> u64;
+        pub fn res_table_config_marks(bytes: *const u8, len: usize, age: u32, out: *mut u8, cap: usize) -> u64;
+        pub fn res_table_config_order(a: *const u8, a_len: usize, b: *const u8, b_len: usize) -> u64;
+    }
+}
+
+/// An answer of the C face: a refusal's number in the upper half, or 0 and the amount in the lower half.
+fn told(answer: u64) -> Result<usize, Refusal> {
+    match (answer >> 32) as usize {
+        0 => Ok((answer & 0xffff_ffff) as usize),
+        number => Err(Refusal::ALL[number - 1]),
+    }
+}
+
+/// How many bytes the record at the front of `bytes` takes: its size, 16 at the least.
+///
+/// Refuses with [`Refusal::FewerThan16`] and [`Refusal::FewerThanSize`].
+///
+/// ```
+/// use res_table_config::{take, Refusal};
+/// assert_eq!(take(&[0; 40]), Ok(16));
+/// assert_eq!(take(&[0; 15]), Err(Refusal::FewerThan16));
+/// ```
+pub fn take(bytes: &[u8]) -> Result<usize, Refusal> {
+    // SAFETY: pointer and length are those of a slice that lives through the call.
+    told(unsafe { face::res_table_config_take(bytes.as_ptr(), bytes.len()) })
+}
+
+/// Writes the text of the record at the front of `bytes` to the front of `out`, and gives it.
+///
+/// Refuses as [`take`] does, then with [`Refusal::ShortBuffer`].
+///
+/// ```
+/// use res_table_config::{text, Refusal};
+/// let record = *b"\x10\0\0\0\0\0\0\0sv\0\0\0\0\0\0";
+/// assert_eq!(text(&record, &mut [0; 2]), Ok(&b"sv"[..]));
+/// assert_eq!(text(&record, &mut [0; 1]), Err(Refusal::ShortBuffer));
+/// ```
+pub fn text<'a>(bytes: &[u8], out: &'a mut [u8]) -> Result<&'a [u8], Refusal> {
+    // SAFETY: pointers and lengths are those of two slices that live through the call; out is borrowed alone.
+    let answer = unsafe { face::res_table_config_text(bytes.as_ptr(), bytes.len(), out.as_mut_ptr(), out.len()) };
+    told(answer).map(|written| &out[..written])
+}
+
+/// Writes the text of the record at the front of `bytes` for a reader of an age to the front of `out`, and gives it.
+///
+/// Refuses with [`Refusal::NotAnAge`], then as [`take`] does, then with [`Refusal::HeldBack`] and [`Refusal::ShortBuffer`].
+///
+/// ```
+/// use res_table_config::{aged_text, Refusal, TEXT_MOST};
+/// let mut record = [0; 36];
+/// (record[0], record[32]) = (36, 100);
+/// assert_eq!(aged_text(&record, 36, &mut [0; TEXT_MOST]), Ok(&b"w100dp"[..]));
+/// assert_eq!(aged_text(&record, 32, &mut [0; TEXT_MOST]), Err(Refusal::HeldBack));
+/// ```
+pub fn aged_text<'a>(bytes: &[u8], age: u32, out: &'a mut [u8]) -> Result<&'a [u8], Refusal> {
+    // SAFETY: as for text.
+    let answer =
+        unsafe { face::res_table_config_aged_text(bytes.as_ptr(), bytes.len(), age, out.as_mut_ptr(), out.len()) };
+    told(answer).map(|written| &out[..written])
+}
+
+/// The marks of the record at the front of `bytes` for a reader of an age, a letter for each field after its size: `U` past the
+/// age, `A` absent from the record, `B` blank, `F` filled.
+///
+/// Refuses with [`Refusal::NotAnAge`], then as [`take`] does.
+///
+/// ```
+/// use res_table_config::{marks, Refusal};
+/// assert_eq!(marks(&[0; 16], 20), Ok(*b"BBBAUUUUUUUUUU"));
+/// assert_eq!(marks(&[0; 16], 17), Err(Refusal::NotAnAge));
+/// ```
+pub fn marks(bytes: &[u8], age: u32) -> Result<[u8; MARKS], Refusal> {
+    let mut letters = [0; MARKS];
+    // SAFETY: as for text; the array is the call's own.
+    told(unsafe { face::res_table_config_marks(bytes.as_ptr(), bytes.len(), age, letters.as_mut_ptr(), MARKS) })?;
+    Ok(letters)
+}
+
+/// How the record at the front of `a` stands to the one at the front of `b`, by every field but the size.
+///
+/// Refuses as [`take`] does of `a`, then of `b`.
+///
+/// ```
+/// use res_table_config::order;
+/// use std::cmp::Ordering;
+/// let record = *b"\x10\0\0\0\0\0\0\0sv\0\0\0\0\0\0";
+/// assert_eq!(order(&[0; 16], &record), Ok(Ordering::Less));
+/// ```
+pub fn order(a: &[u8], b: &[u8]) -> Result<Ordering, Refusal> {
+    // SAFETY: pointers and lengths are those of two slices that live through the call.
+    let answer = unsafe { face::res_table_config_order(a.as_ptr(), a.len(), b.as_ptr(), b.len()) };
+    told(answer).map(|amount| amount.cmp(&1))
+}

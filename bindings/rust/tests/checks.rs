@@ -1,0 +1,125 @@
+//! The checks of the crate, as one program: it says each check's name as it begins, and a check that fails ends it by a panic.
+//!
+//! `main` is C's: the kit's emulator can't bear Rust's own start-up, nor libtest.
+#![no_main]
+
+#[path = "../examples/list.rs"]
+mod list;
+
+use res_table_config::{aged_text, marks, order, take, text, Refusal, MARKS, TEXT_MOST};
+use std::cmp::Ordering;
+
+/// 01's listing: a phone's record, a blank one, and three bytes that are none.
+const RUN: &[u8; 35] = b"\x10\0\0\0\x36\x01\0\0enUS\x01\0\xf0\0\0\0\0\0\0\0\0\0\0\0\0\0\0\0\0\0\x01\x02\x03";
+const GUARD: u8 = 0xa5;
+
+/// A record of these bytes: its size, and one byte at a place.
+fn record(size: u8, at: usize, byte: u8) -> [u8; 80] {
+    let mut bytes = [0; 80];
+    (bytes[0], bytes[at]) = (size, byte);
+    bytes
+}
+
+/// What a call that writes gives for a buffer of some length, which it must leave alone behind the text, and whole at a refusal.
+fn written(cap: usize, call: impl Fn(&mut [u8]) -> Result<Vec<u8>, Refusal>) -> Result<Vec<u8>, Refusal> {
+    let mut out = [GUARD; 400];
+    let got = call(&mut out[..cap]);
+    let behind = got.as_ref().map_or(0, Vec::len);
+    assert_eq!(out[..behind], *got.as_deref().unwrap_or_default());
+    assert!(out[behind..].iter().all(|byte| *byte == GUARD));
+    got
+}
+
+fn plain(bytes: &[u8], cap: usize) -> Result<Vec<u8>, Refusal> {
+    written(cap, |out| text(bytes, out).map(<[u8]>::to_vec))
+}
+
+fn aged(bytes: &[u8], age: u32, cap: usize) -> Result<Vec<u8>, Refusal> {
+    written(cap, |out| aged_text(bytes, age, out).map(<[u8]>::to_vec))
+}
+
+fn takes() {
+    assert_eq!(take(&[]), Err(Refusal::FewerThan16));
+    assert_eq!(take(&[0; 15]), Err(Refusal::FewerThan16));
+    assert_eq!(take(&[0; 16]), Ok(16));
+    assert_eq!(take(&record(17, 4, 0)[..16]), Err(Refusal::FewerThanSize));
+    assert_eq!(take(&record(17, 4, 0)[..17]), Ok(17));
+    assert_eq!(take(&[255; 80]), Err(Refusal::FewerThanSize));
+}
+
+fn texts() {
+    assert_eq!(plain(RUN, TEXT_MOST), Ok(b"mcc310-en-rUS-port-hdpi".to_vec()));
+    assert_eq!(plain(RUN, 23), Ok(b"mcc310-en-rUS-port-hdpi".to_vec()));
+    assert_eq!(plain(RUN, 22), Err(Refusal::ShortBuffer));
+    assert_eq!(plain(&[0; 16], 0), Ok(vec![]));
+    assert_eq!(plain(&[0; 15], TEXT_MOST), Err(Refusal::FewerThan16));
+    assert_eq!(plain(&record(17, 4, 0)[..16], 0), Err(Refusal::FewerThanSize));
+    assert_eq!(plain(&record(65, 64, 1), TEXT_MOST), Ok(vec![]));
+}
+
+fn aged_texts() {
+    let wide = record(36, 32, 100);
+    assert_eq!(aged(&wide, 36, TEXT_MOST), Ok(b"w100dp".to_vec()));
+    assert_eq!(aged(&wide, 36, 5), Err(Refusal::ShortBuffer));
+    assert_eq!(aged(&wide, 32, 0), Err(Refusal::HeldBack));
+    assert_eq!(aged(&wide[..35], 32, 0), Err(Refusal::FewerThanSize));
+    assert_eq!(aged(&[], 33, 0), Err(Refusal::NotAnAge));
+    assert_eq!(aged(&record(65, 64, 1), 64, TEXT_MOST), Err(Refusal::HeldBack));
+}
+
+fn all_marks() {
+    assert_eq!(marks(RUN, 64), Ok(*b"FFFAAAAAAAAAAA"));
+    assert_eq!(marks(&record(36, 32, 100), 32), Ok(*b"BBBBBBBUUUUUUU"));
+    assert_eq!(marks(&[], u32::MAX), Err(Refusal::NotAnAge));
+    assert_eq!(marks(&[], 64), Err(Refusal::FewerThan16));
+    assert_eq!(MARKS, 14);
+}
+
+fn orders() {
+    let (mcc, mnc) = (record(16, 4, 255), record(20, 6, 1));
+    assert_eq!(order(&mcc, &mnc), Ok(Ordering::Less));
+    assert_eq!(order(&mnc, &mcc), Ok(Ordering::Greater));
+    assert_eq!(order(&[0; 16], &record(17, 4, 0)), Ok(Ordering::Equal));
+    assert_eq!(order(&record(17, 4, 0)[..16], &[0; 15]), Err(Refusal::FewerThanSize));
+    assert_eq!(order(&[0; 15], &record(17, 4, 0)[..16]), Err(Refusal::FewerThan16));
+    assert_eq!(order(&mcc, &[]), Err(Refusal::FewerThan16));
+}
+
+fn refusals() {
+    let numbers =
+        [Refusal::FewerThan16, Refusal::FewerThanSize, Refusal::NotAnAge, Refusal::HeldBack, Refusal::ShortBuffer]
+            .map(Refusal::number);
+    assert_eq!(numbers, [1, 2, 3, 4, 5]);
+    assert_eq!([Refusal::UnreadField, Refusal::TooMuchInput].map(Refusal::number), [6, 7]);
+    let why: Box<dyn std::error::Error> = Refusal::HeldBack.into();
+    assert_eq!(why.to_string(), "held back: a byte past the age isn't zero");
+}
+
+fn lists() {
+    let phone = "0 0 16 mcc310-en-rUS-port-hdpi\n1 16 16 \n";
+    assert_eq!(list::lines(RUN, None), format!("{phone}stopped at 32: fewer than 16 bytes\n"));
+    assert_eq!(list::lines(&RUN[..32], Some(16)), format!("{phone}stopped at 32\n"));
+    let held = list::lines(&record(36, 32, 100)[..36], Some(32));
+    assert_eq!(held, "0 0 36 (held back: a byte past the age isn't zero)\nstopped at 36\n");
+    assert_eq!(list::lines(&[], None), "stopped at 0\n");
+}
+
+const CHECKS: [(&str, fn()); 7] = [
+    ("take", takes),
+    ("text", texts),
+    ("aged text", aged_texts),
+    ("marks", all_marks),
+    ("order", orders),
+    ("refusals", refusals),
+    ("list", lists),
+];
+
+#[unsafe(no_mangle)]
+pub extern "C" fn main() -> i32 {
+    for (name, check) in CHECKS {
+        println!("checks: {name}");
+        check();
+    }
+    println!("checks: {} passed", CHECKS.len());
+    0
+}

@@ -1,0 +1,6 @@
+pub mod Answers
+pub mod Bytes
+pub mod Fits
+pub mod OneOutcome
+pub mod Packing
+pub mod Small

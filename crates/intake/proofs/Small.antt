@@ -1,0 +1,114 @@
+-- What the calls tell has a number below 8 and an amount below 2^32, so nothing of it is lost in an answer; and a refusal has
+-- amount 0. Assumes nothing.
+use Prim.Native.Nat.{ℕ, _≤_, _<_}
+use mathlib.Core.Path.{_≡_, refl}
+use mathlib.Core.Bool.{Bool, true, false, cond}
+use mathlib.Core.List.{List}
+use native.Mathlib.Omega.{arith}
+use native.Mathlib.Decide.{decLt}
+use lib.Dec.{leb, lit<}
+use lib.ListN.{length, drop, length-take}
+use Rattle.answers.specs.declared.Refusal.{Refusal}
+use Rattle.answers.specs.declared.Told.{Told}
+use Rattle.answers.specs.Numbers.{numberOf}
+use Rattle.answers.specs.Tells.{success, refusal}
+use Rattle.buffer.specs.Written.{Outcome, written, wrote, refused}
+use Rattle.record.specs.declared.order.Ordering.{Ordering}
+use Rattle.record.specs.Ages.{isAge}
+use Rattle.record.specs.Order.{orderOf, orderingTells}
+use Rattle.record.specs.Packed.{AllBytes}
+use Rattle.record.specs.Table.{part}
+use Rattle.reading.specs.Reading.{ifWhole, ifAge, amountOf, plain, aged, taken, sizeOf}
+use Rattle.reading.proofs.Whole.{whole-short, whole-cut, whole-took}
+use Rattle.marking.specs.Marks.{marksOf, marksOutcome, heldBack}
+use Rattle.marking.proofs.Marking.{marks-length}
+use Rattle.places.specs.Places.{textOf}
+use Rattle.text.specs.Text.{plainText, agedText}
+use Rattle.intake.specs.Intake.{orderTold}
+use Rattle.intake.proofs.Bytes.{all-part, word-most}
+use Rattle.intake.proofs.Fits.{plain-most, aged-most}
+
+-- a number below 8 and an amount below 2^32, which is 0 where the number isn't
+pub record Small (t : Told) : Type 0 where
+  pub number : t .number < 8
+  pub amount : t .amount < 4294967296
+  pub bare : (t .number ≡ 0 → ⊥) → t .amount ≡ 0
+
+number-most : (why : Refusal) → numberOf why < 8
+number-most Refusal.FewerThan16 = lit< tt
+number-most Refusal.FewerThanSize = lit< tt
+number-most Refusal.NotAnAge = lit< tt
+number-most Refusal.HeldBack = lit< tt
+number-most Refusal.ShortBuffer = lit< tt
+number-most Refusal.UnreadField = lit< tt
+number-most Refusal.TooMuchInput = lit< tt
+
+refusal-small : (why : Refusal) → Small (refusal (numberOf why))
+refusal-small why = record { number = number-most why; amount = lit< tt; bare = λ d. refl }
+
+success-small : (n : ℕ) → n < 4294967296 → Small (success n)
+success-small n h = record { number = lit< tt; amount = h; bare = λ d. absurd (d refl) }
+
+-- what holds of both ways holds of what is chosen
+chosen : {A : Type 0} (P : A → Type 0) (b : Bool) (x y : A) → P x → P y → P (cond b x y)
+chosen P true x y p q = p
+chosen P false x y p q = q
+
+-- what holds of the refusals, and of what a whole record gives, holds of the call
+module _ {A : Type 0} (P : A → Type 0) (refuse : Refusal → A) (give : A) (bad : (why : Refusal) → P (refuse why)) where
+  by-whole : (s : List ℕ) → (taken s ≤ length s → P give) → P (ifWhole s refuse give)
+  by-whole s good =
+      elim (decLt (length s) 16) [
+        | yes h ↦ rw (whole-short s refuse give h) (bad Refusal.FewerThan16)
+        | no h ↦ elim (decLt (length s) (sizeOf s)) [
+          | yes g ↦ let k : 16 ≤ length s = omega arith in rw (whole-cut s refuse give k g) (bad Refusal.FewerThanSize)
+          | no g ↦ let k : taken s ≤ length s = omega arith in rw (whole-took s refuse give k) (good k)
+        ]
+      ]
+
+  by-age : (a : ℕ) → P give → P (ifAge a refuse give)
+  unfolding ifAge
+  by-age a good = chosen P (isAge a) give (refuse Refusal.NotAnAge) good (bad Refusal.NotAnAge)
+
+-- what a call that writes tells
+abbrev Tells : Outcome → Type 0
+Tells o = Small (o .tells)
+
+written-small : (w old : List ℕ) → length w < 4294967296 → Tells (written w old)
+unfolding written
+written-small w old h =
+    chosen Tells (leb (length w) (length old)) (wrote w old) (refused Refusal.ShortBuffer old) (success-small (length w) h) (refusal-small Refusal.ShortBuffer)
+
+-- of taking: size is a word of 32 bits
+pub take-small : (s : List ℕ) → AllBytes s → Small (amountOf s)
+take-small s bytes =
+    by-whole Small _ _ refusal-small s
+    (λ whole. success-small (taken s) (omega (arith, word-most (part s 0 4) (all-part s 0 4 bytes) (omega (arith, length-take 4 (drop 0 s))))))
+
+-- of plain text and of aged text: no text is longer than 344 bytes
+pub text-small : (s old : List ℕ) → AllBytes s → Small (plainText s old .tells)
+text-small s old bytes =
+    by-whole Tells _ _ refusal-small s (λ whole. written-small (textOf (plain s)) old (omega (arith, plain-most s bytes whole)))
+
+pub aged-small : (a : ℕ) (s old : List ℕ) → AllBytes s → Small (agedText a s old .tells)
+aged-small a s old bytes =
+    by-age Tells _ _ refusal-small a
+    (by-whole Tells _ _ refusal-small s
+    (λ whole. chosen Tells (heldBack a s) (refused Refusal.HeldBack old) _ (refusal-small Refusal.HeldBack) (written-small (textOf (aged a s)) old (omega (arith, aged-most s bytes whole a)))))
+
+-- of marks: there are fourteen
+pub marks-small : (a : ℕ) (s old : List ℕ) → Small (marksOutcome a s old .tells)
+marks-small a s old =
+    by-age Tells _ _ refusal-small a
+    (by-whole Tells _ _ refusal-small s (λ whole. written-small (marksOf a s) old (omega (arith, marks-length a s))))
+
+pub ordering-most : (o : Ordering) → orderingTells o < 4294967296
+ordering-most Ordering.Less = lit< tt
+ordering-most Ordering.Equal = lit< tt
+ordering-most Ordering.Greater = lit< tt
+
+-- of order: 2 at the most
+pub order-small : (a b : List ℕ) → Small (orderTold a b)
+order-small a b =
+    by-whole Small _ _ refusal-small a
+    (λ h. by-whole Small _ _ refusal-small b (λ g. success-small _ (ordering-most (orderOf (plain a) (plain b)))))

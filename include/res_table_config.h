@@ -1,0 +1,79 @@
+/*
+ * Resource configuration records of Android packages: five calls on numbers and bytes. Link libintake.a, which
+ * `rt staticlib intake` writes to target/staticlib/ (x86-64 Linux).
+ *
+ * Answers. Each call answers one number: a refusal's number in the upper 32 bits, 0 for a success, and an amount in the lower
+ * 32 bits, 0 for a refusal. Refusals are tested in the order 3, 1, 2, 4, 5, as far as each can come.
+ *
+ * Buffers. A pointer and the length behind it name that many bytes, from one object, and the pointer isn't null, also where the
+ * length is 0. A success writes from the front of out and leaves the bytes behind what it wrote as they were. A refusal writes
+ * nothing. No text is longer than RES_TABLE_CONFIG_TEXT_MOST.
+ *
+ * Aliasing. out doesn't overlap bytes. The two records of res_table_config_order may overlap, or be the same. No call keeps a
+ * pointer or anything else, so calls on different buffers may run at the same time.
+ */
+#ifndef RES_TABLE_CONFIG_H
+#define RES_TABLE_CONFIG_H
+
+#include <stddef.h>
+#include <stdint.h>
+
+#ifdef __cplusplus
+extern "C" {
+#endif
+
+/* Why a call is refused. The calls of this header give 1 to 5. */
+enum res_table_config_refusal {
+    RES_TABLE_CONFIG_FEWER_THAN_16 = 1,   /* there are fewer than 16 bytes */
+    RES_TABLE_CONFIG_FEWER_THAN_SIZE = 2, /* 16 bytes or more, fewer than the record's size */
+    RES_TABLE_CONFIG_NOT_AN_AGE = 3,      /* none of 16 20 24 28 32 36 40 48 52 53 61 64 */
+    RES_TABLE_CONFIG_HELD_BACK = 4,       /* a byte of the record at offset age or later isn't zero */
+    RES_TABLE_CONFIG_SHORT_BUFFER = 5,    /* out is shorter than what is to be written */
+    RES_TABLE_CONFIG_UNREAD_FIELD = 6,    /* writer: a field that isn't read at the record's size isn't zero */
+    RES_TABLE_CONFIG_TOO_MUCH_INPUT = 7   /* listing: more than 65,536 bytes of input */
+};
+
+/* How many bytes the longest text has, and how many marks there are. */
+enum {
+    RES_TABLE_CONFIG_TEXT_MOST = 344,
+    RES_TABLE_CONFIG_MARKS = 14
+};
+
+/* The amounts of res_table_config_order. */
+enum res_table_config_ordering {
+    RES_TABLE_CONFIG_LESS = 0,
+    RES_TABLE_CONFIG_EQUAL = 1,
+    RES_TABLE_CONFIG_GREATER = 2
+};
+
+/* The number of an answer: 0 for a success, else why the call is refused. */
+static inline uint32_t res_table_config_number(uint64_t answer) {
+    return (uint32_t)(answer >> 32);
+}
+
+/* The amount of an answer: 0 for a refusal. */
+static inline uint32_t res_table_config_amount(uint64_t answer) {
+    return (uint32_t)(answer & 0xffffffffu);
+}
+
+/* How many bytes the record at the front of bytes takes. Refusals 1, 2. */
+uint64_t res_table_config_take(const uint8_t *bytes, size_t len);
+
+/* Writes the record's text; the amount is its length. Refusals 1, 2, 5. */
+uint64_t res_table_config_text(const uint8_t *bytes, size_t len, uint8_t *out, size_t cap);
+
+/* Writes the record's text for a reader of an age; the amount is its length. Refusals 3, 1, 2, 4, 5. */
+uint64_t res_table_config_aged_text(const uint8_t *bytes, size_t len, uint32_t age, uint8_t *out, size_t cap);
+
+/* Writes a letter for each field after size, in field order: U past the age, A absent, B blank, F filled. The amount is 14.
+   Refusals 3, 1, 2, 5. */
+uint64_t res_table_config_marks(const uint8_t *bytes, size_t len, uint32_t age, uint8_t *out, size_t cap);
+
+/* How the record at the front of a stands to the one at the front of b. Refusals 1, 2 of a, then 1, 2 of b. */
+uint64_t res_table_config_order(const uint8_t *a, size_t a_len, const uint8_t *b, size_t b_len);
+
+#ifdef __cplusplus
+}
+#endif
+
+#endif

@@ -1,0 +1,178 @@
+/* Calls the C face as a C program does. Prints a line for each class of checks; the status is 1 where a check fails. */
+#include "res_table_config.h"
+
+/* The one function of C's library that is called: a compiler for another machine may have no <stdio.h>. */
+int printf(const char *format, ...);
+
+/* The checks of tests/c/face.cpp: how many there are, and in failed how many fail. */
+int face_from_cpp(int *failed);
+
+#define GUARD 0xa5
+#define ROOM 400
+
+static int checks, failures, all_failures;
+static uint8_t out[ROOM];
+
+/* mcc310-en-rUS-port-hdpi: the first record of 01's listing. */
+static const uint8_t PHONE[16] = {16, 0, 0, 0, 54, 1, 0, 0, 'e', 'n', 'U', 'S', 1, 0, 240, 0};
+static const char PHONE_TEXT[] = "mcc310-en-rUS-port-hdpi";
+
+/* The record whose text has 344 bytes. */
+static const uint8_t LONGEST[64] = {
+    64,  0,   0,   0,   255, 255, 255, 255, 255, 255, 1,   128, 255, 255, 253, 255, 255, 255, 13,  3,   255, 255,
+    255, 255, 255, 255, 255, 255, 82,  63,  255, 255, 255, 255, 255, 255, 255, 255, 255, 255, 255, 255, 255, 255,
+    255, 255, 255, 255, 1,   9,   0,   0,   0,   255, 255, 255, 255, 255, 255, 255, 255, 0,   0,   0};
+
+static const uint8_t ZEROS[64] = {0};
+
+/* Counts a check, and says where it stands if it fails. */
+static void check(int holds, int line) {
+    checks++;
+    if (!holds) {
+        failures++;
+        printf("face: FAILED: tests/c/face.c:%d\n", line);
+    }
+}
+#define CHECK(holds) check(holds, __LINE__)
+
+/* Ends a class of checks. */
+static void ended(const char *name) {
+    printf("face: %s: %d checks, %d failed\n", name, checks, failures);
+    all_failures += failures;
+    checks = failures = 0;
+}
+
+static void fill(void) {
+    for (size_t i = 0; i < ROOM; i++) out[i] = GUARD;
+}
+
+/* Whether out holds guard bytes from a place on. */
+static int untouched(size_t from) {
+    for (size_t i = from; i < ROOM; i++)
+        if (out[i] != GUARD) return 0;
+    return 1;
+}
+
+/* Whether an answer is a refusal with this number, and out is as it was. */
+static int refused(uint64_t answer, uint32_t number) {
+    int holds = res_table_config_number(answer) == number && res_table_config_amount(answer) == 0 && untouched(0);
+    fill();
+    return holds;
+}
+
+/* Whether an answer is a success that wrote a word and no byte behind it. */
+static int wrote(uint64_t answer, const char *word) {
+    size_t n = 0;
+    int same = 1;
+    for (; word[n]; n++) same = same && out[n] == (uint8_t)word[n];
+    int holds = answer == n && same && untouched(n);
+    fill();
+    return holds;
+}
+
+/* A record of 64 bytes of room: this size, and one byte at a place. */
+static void record(uint8_t *bytes, uint8_t size, size_t at, uint8_t byte) {
+    for (size_t i = 0; i < 80; i++) bytes[i] = 0;
+    bytes[0] = size;
+    bytes[at] = byte;
+}
+
+static void take(void) {
+    uint8_t bytes[80];
+    record(bytes, 17, 4, 0);
+    CHECK(refused(res_table_config_take(ZEROS, 0), RES_TABLE_CONFIG_FEWER_THAN_16));
+    CHECK(refused(res_table_config_take(ZEROS, 15), RES_TABLE_CONFIG_FEWER_THAN_16));
+    CHECK(res_table_config_take(ZEROS, 16) == 16);
+    CHECK(res_table_config_take(ZEROS, 40) == 16);
+    CHECK(refused(res_table_config_take(bytes, 16), RES_TABLE_CONFIG_FEWER_THAN_SIZE));
+    CHECK(res_table_config_take(bytes, 17) == 17);
+    CHECK(res_table_config_take(bytes, 80) == 17);
+    bytes[3] = 255;
+    CHECK(refused(res_table_config_take(bytes, 80), RES_TABLE_CONFIG_FEWER_THAN_SIZE));
+    ended("take");
+}
+
+static void text(void) {
+    uint8_t bytes[80];
+    CHECK(wrote(res_table_config_text(PHONE, 16, out, ROOM), PHONE_TEXT));
+    CHECK(wrote(res_table_config_text(PHONE, 16, out, 23), PHONE_TEXT));
+    CHECK(refused(res_table_config_text(PHONE, 16, out, 22), RES_TABLE_CONFIG_SHORT_BUFFER));
+    CHECK(refused(res_table_config_text(PHONE, 16, out, 0), RES_TABLE_CONFIG_SHORT_BUFFER));
+    CHECK(refused(res_table_config_text(PHONE, 15, out, ROOM), RES_TABLE_CONFIG_FEWER_THAN_16));
+    CHECK(refused(res_table_config_text(LONGEST, 63, out, 0), RES_TABLE_CONFIG_FEWER_THAN_SIZE));
+    CHECK(wrote(res_table_config_text(ZEROS, 16, out, 0), ""));
+    CHECK(res_table_config_text(LONGEST, 64, out, RES_TABLE_CONFIG_TEXT_MOST) == 344 && out[343] != GUARD && untouched(344));
+    fill();
+    CHECK(refused(res_table_config_text(LONGEST, 64, out, 343), RES_TABLE_CONFIG_SHORT_BUFFER));
+    record(bytes, 65, 64, 1);
+    CHECK(wrote(res_table_config_text(bytes, 65, out, ROOM), ""));
+    ended("text");
+}
+
+static void aged_text(void) {
+    uint8_t bytes[80];
+    record(bytes, 36, 32, 100);
+    CHECK(refused(res_table_config_aged_text(ZEROS, 0, 33, out, 0), RES_TABLE_CONFIG_NOT_AN_AGE));
+    CHECK(refused(res_table_config_aged_text(ZEROS, 16, 0, out, ROOM), RES_TABLE_CONFIG_NOT_AN_AGE));
+    CHECK(refused(res_table_config_aged_text(ZEROS, 15, 64, out, ROOM), RES_TABLE_CONFIG_FEWER_THAN_16));
+    CHECK(refused(res_table_config_aged_text(bytes, 35, 32, out, ROOM), RES_TABLE_CONFIG_FEWER_THAN_SIZE));
+    CHECK(refused(res_table_config_aged_text(bytes, 36, 32, out, 0), RES_TABLE_CONFIG_HELD_BACK));
+    CHECK(refused(res_table_config_aged_text(bytes, 36, 36, out, 5), RES_TABLE_CONFIG_SHORT_BUFFER));
+    CHECK(wrote(res_table_config_aged_text(bytes, 36, 36, out, 6), "w100dp"));
+    CHECK(wrote(res_table_config_aged_text(PHONE, 16, 16, out, ROOM), PHONE_TEXT));
+    record(bytes, 65, 64, 1);
+    CHECK(refused(res_table_config_aged_text(bytes, 65, 64, out, ROOM), RES_TABLE_CONFIG_HELD_BACK));
+    ended("aged text");
+}
+
+static void marks(void) {
+    uint8_t bytes[80];
+    record(bytes, 36, 32, 100);
+    CHECK(wrote(res_table_config_marks(PHONE, 16, 64, out, ROOM), "FFFAAAAAAAAAAA"));
+    CHECK(wrote(res_table_config_marks(ZEROS, 16, 16, out, 14), "BBBUUUUUUUUUUU"));
+    CHECK(wrote(res_table_config_marks(bytes, 36, 64, out, 14), "BBBBBBBFAAAAAA"));
+    CHECK(wrote(res_table_config_marks(bytes, 36, 32, out, 14), "BBBBBBBUUUUUUU"));
+    CHECK(refused(res_table_config_marks(PHONE, 16, 64, out, 13), RES_TABLE_CONFIG_SHORT_BUFFER));
+    CHECK(refused(res_table_config_marks(ZEROS, 0, 65, out, 0), RES_TABLE_CONFIG_NOT_AN_AGE));
+    CHECK(refused(res_table_config_marks(ZEROS, 15, 64, out, 0), RES_TABLE_CONFIG_FEWER_THAN_16));
+    CHECK(refused(res_table_config_marks(bytes, 35, 64, out, 0), RES_TABLE_CONFIG_FEWER_THAN_SIZE));
+    ended("marks");
+}
+
+static void order(void) {
+    uint8_t mcc[80], mnc[80], cut[80];
+    record(mcc, 16, 4, 255);
+    record(mnc, 20, 6, 1);
+    record(cut, 17, 4, 0);
+    CHECK(res_table_config_order(ZEROS, 16, PHONE, 16) == RES_TABLE_CONFIG_LESS);
+    CHECK(res_table_config_order(PHONE, 16, PHONE, 16) == RES_TABLE_CONFIG_EQUAL);
+    CHECK(res_table_config_order(PHONE, 16, ZEROS, 16) == RES_TABLE_CONFIG_GREATER);
+    CHECK(res_table_config_order(mcc, 16, mnc, 20) == RES_TABLE_CONFIG_LESS);
+    CHECK(res_table_config_order(ZEROS, 16, cut, 17) == RES_TABLE_CONFIG_EQUAL);
+    CHECK(refused(res_table_config_order(cut, 16, ZEROS, 15), RES_TABLE_CONFIG_FEWER_THAN_SIZE));
+    CHECK(refused(res_table_config_order(ZEROS, 15, cut, 16), RES_TABLE_CONFIG_FEWER_THAN_16));
+    CHECK(refused(res_table_config_order(PHONE, 16, cut, 16), RES_TABLE_CONFIG_FEWER_THAN_SIZE));
+    CHECK(refused(res_table_config_order(PHONE, 16, ZEROS, 0), RES_TABLE_CONFIG_FEWER_THAN_16));
+    ended("order");
+}
+
+static void header(void) {
+    uint64_t answer = ((uint64_t)7 << 32) + 0xfffffff9u;
+    CHECK(res_table_config_number(answer) == RES_TABLE_CONFIG_TOO_MUCH_INPUT);
+    CHECK(res_table_config_amount(answer) == 0xfffffff9u);
+    CHECK(RES_TABLE_CONFIG_UNREAD_FIELD == 6 && RES_TABLE_CONFIG_MARKS == 14);
+    ended("header");
+}
+
+int main(void) {
+    fill();
+    take();
+    text();
+    aged_text();
+    marks();
+    order();
+    header();
+    checks = face_from_cpp(&failures);
+    ended("C++");
+    return all_failures != 0;
+}

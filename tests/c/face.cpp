@@ -1,0 +1,26 @@
+// Calls the C face from C++: the same header, the same names.
+#include "res_table_config.h"
+#include "res_table_config.h"
+
+static const uint8_t SWEDISH[16] = {16, 0, 0, 0, 0, 0, 0, 0, 's', 'v'};
+
+// Each call once: whether the answer is the right one.
+extern "C" int face_from_cpp(int *failed) {
+    uint8_t text[RES_TABLE_CONFIG_TEXT_MOST] = {};
+    uint8_t aged[2] = {};
+    uint8_t marks[RES_TABLE_CONFIG_MARKS] = {};
+    const bool holds[] = {
+        res_table_config_take(SWEDISH, sizeof SWEDISH) == 16,
+        res_table_config_text(SWEDISH, sizeof SWEDISH, text, sizeof text) == 2 && text[0] == 's' && text[1] == 'v',
+        res_table_config_aged_text(SWEDISH, sizeof SWEDISH, 16, aged, sizeof aged) == 2 && aged[1] == 'v',
+        res_table_config_marks(SWEDISH, sizeof SWEDISH, 16, marks, sizeof marks) == 14 && marks[1] == 'F',
+        res_table_config_order(SWEDISH, sizeof SWEDISH, SWEDISH, sizeof SWEDISH) == RES_TABLE_CONFIG_EQUAL,
+        res_table_config_number(res_table_config_take(SWEDISH, 15)) == RES_TABLE_CONFIG_FEWER_THAN_16,
+    };
+    int count = 0;
+    for (bool one : holds) {
+        count++;
+        if (!one) ++*failed;
+    }
+    return count;
+}
