@@ -11,7 +11,7 @@ use Rattle.answers.specs.Numbers.{numberOf}
 use Rattle.answers.specs.Tells.{success, refusal, takenTells, writtenTells}
 use Rattle.buffer.specs.Written.{Outcome, outcome}
 use Rattle.record.specs.declared.order.Ordering.{Ordering}
-use Rattle.record.specs.Order.{orderOf, orderingTells}
+use Rattle.order.specs.Order.{orderOf, orderingTells}
 use Rattle.reading.specs.declared.Parsed.{Parsed}
 use Rattle.reading.specs.Reading.{ParseOutcome, parsedOutcome, parseOf, amountOf, ifWhole, plain, taken, sizeOf}
 use Rattle.reading.proofs.Whole.{whole-short, whole-cut, whole-took}

@@ -5,7 +5,7 @@ use mathlib.Core.List.{List, [], _∷_}
 use native.Mathlib.Omega.{arith}
 use native.Mathlib.Decide.{decLt}
 use lib.ListN.{length, getD, take, drop, replicate}
-use Rattle.record.specs.Packed.{AllBytes}
+use Rattle.order.specs.Packed.{AllBytes}
 use Rattle.record.specs.Table.{part, le}
 
 -- what holds at n places holds at one more

@@ -12,7 +12,7 @@ use denote.Array.{each, arrayVal, Array}
 use denote.Builtin.{u8}
 use denote.Laws.{Is}
 use denote.Shadow.{shadow}
-use Rattle.record.specs.Packed.{AllBytes}
+use Rattle.order.specs.Packed.{AllBytes}
 use Rattle.record.specs.Table.{le, startOf, endOf}
 use Rattle.reading.specs.Reading.{fieldBy, recordBy, plain, aged, taken}
 use Rattle.reading.proofs.FieldBytes.{read-is, zero-is}

@@ -15,8 +15,8 @@ use Rattle.answers.specs.Tells.{success, refusal}
 use Rattle.buffer.specs.Written.{Outcome, written, wrote, refused}
 use Rattle.record.specs.declared.order.Ordering.{Ordering}
 use Rattle.record.specs.Ages.{isAge}
-use Rattle.record.specs.Order.{orderOf, orderingTells}
-use Rattle.record.specs.Packed.{AllBytes}
+use Rattle.order.specs.Order.{orderOf, orderingTells}
+use Rattle.order.specs.Packed.{AllBytes}
 use Rattle.record.specs.Table.{part}
 use Rattle.reading.specs.Reading.{ifWhole, ifAge, amountOf, plain, aged, taken, sizeOf}
 use Rattle.reading.proofs.Whole.{whole-short, whole-cut, whole-took}

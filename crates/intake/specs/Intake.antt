@@ -5,7 +5,7 @@ use Rattle.answers.specs.declared.Told.{Told}
 use Rattle.answers.specs.Numbers.{numberOf}
 use Rattle.answers.specs.Tells.{success, refusal}
 use Rattle.buffer.specs.Written.{Outcome}
-use Rattle.record.specs.Order.{orderOf, orderingTells}
+use Rattle.order.specs.Order.{orderOf, orderingTells}
 use Rattle.reading.specs.Reading.{plain, ifWhole}
 
 -- what a call tells, as one number: number times 2^32, and the amount

@@ -4,6 +4,7 @@
 // A refusal changes no lent byte. Ages arrive as plain numbers.
 use answers::Told;
 use marking::marks;
+use order::cmp;
 use reading::amount;
 use reading::parse;
 use record::Age;
@@ -13,7 +14,7 @@ ghost use mathlib.Core.Path.{_≡_};
 ghost use Prim.Native.Nat.{_<_};
 ghost use Rattle.marking.specs.Marks.{marksOutcome};
 ghost use Rattle.reading.specs.Reading.{amountOf};
-ghost use Rattle.record.specs.Packed.{AllBytes};
+ghost use Rattle.order.specs.Packed.{AllBytes};
 ghost use Rattle.text.specs.Text.{agedText, plainText};
 ghost use Rattle.intake.specs.Intake.{answerOutcome, answerTells, orderTold};
 
@@ -88,6 +89,6 @@ pub extern "C" fn res_table_config_order(a: &[u8], b: &[u8]) -> u64
     }
     let first = parsed_a.record;
     let second = parsed_b.record;
-    let order = first.cmp(second);
+    let order = cmp(first, second);
     order.number() as u64
 }

@@ -11,7 +11,7 @@ use Rattle.reading.specs.declared.Parsed.{Parsed}
 use Rattle.reading.specs.Reading.{ParseOutcome, parsedOutcome}
 use Rattle.record.specs.declared.ResTableConfig.{ResTableConfig}
 use Rattle.record.specs.declared.order.Ordering.{Ordering}
-use Rattle.record.specs.Order.{equalOf, orderOf, orderingTells}
+use Rattle.order.specs.Order.{equalOf, orderOf, orderingTells}
 
 -- the record of a parse is the one that its outcome gives
 gives : (p : Parsed) (o : ParseOutcome) → parsedOutcome p ≡ o → p .«record» ≡ o .gives

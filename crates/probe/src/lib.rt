@@ -1,11 +1,13 @@
 // What the benchmark calls of the port: parsing, text and order from bytes, each answering one number.
+use order::cmp;
+use order::eq;
 use reading::parse;
 use record::blank;
 use text::plain_text;
 ghost use mathlib.Core.Path.{_≡_};
 ghost use Rattle.reading.specs.Reading.{parseOf};
 ghost use Rattle.record.specs.Blank.{blankRecord};
-ghost use Rattle.record.specs.Order.{equalOf, orderOf, orderingTells};
+ghost use Rattle.order.specs.Order.{equalOf, orderOf, orderingTells};
 ghost use Rattle.text.specs.Text.{plainText};
 
 // Whether the record that parsing bytes gives equals the one that holds nothing: so every field of it is looked at.
@@ -15,7 +17,7 @@ pub extern "C" fn probe_blank(bytes: &[u8]) -> bool
 {
     let parsed = parse(bytes);
     let record = parsed.record;
-    record.eq(blank())
+    eq(record, blank())
 }
 
 // Writes the plain text of the record at the front of bytes, and answers how many bytes it has, 0 where it is refused.
@@ -38,6 +40,6 @@ pub extern "C" fn probe_order(a: &[u8], b: &[u8]) -> u32
     let parsed_b = parse(b);
     let first = parsed_a.record;
     let second = parsed_b.record;
-    let order = first.cmp(second);
+    let order = cmp(first, second);
     order.number()
 }

@@ -1,10 +1,3 @@
-pub mod Agreeing
 pub mod Among
-pub mod Chain
-pub mod Lex
 pub mod OneOutcome
-pub mod OneToOne
-pub mod Packing
-pub mod Total
 pub mod Twelve
-pub mod Words

@@ -1,7 +1,7 @@
 -- 01, "The record": the field table, and what a list of bytes says. Assumes nothing.
 use Prim.Native.Nat.{ℕ, _+_, _*_, _-_}
 use mathlib.Core.List.{List, [], _∷_}
-use mathlib.Core.Bool.{Bool, true, _&&_}
+use mathlib.Core.Bool.{Bool, true, false, _&&_}
 use lib.ListN.{getD, take, drop}
 use lib.Dec.{eqb}
 
@@ -38,3 +38,8 @@ le (b ∷ bs) = b + 256 * le bs
 abbrev pub allZero : List ℕ → Bool
 allZero [] = true
 allZero (b ∷ bs) = eqb b 0 && allZero bs
+
+-- a yes as a number: 1
+abbrev pub bit : Bool → ℕ
+bit false = 0
+bit true = 1

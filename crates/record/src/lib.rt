@@ -1,7 +1,6 @@
 // The record, its field table and the ages of readers.
 mod accessors;
 mod age;
-mod order;
 
 pub use accessors::KeyboardNavigationInputFlags;
 pub use accessors::MccMnc;
@@ -12,7 +11,6 @@ pub use accessors::ScreenWidthHeight;
 pub use accessors::ScreenWidthHeightDp;
 pub use accessors::SdkMinorVersion;
 pub use age::Age;
-pub use order::Ordering;
 ghost use mathlib.Core.Path.{_≡_};
 ghost use Rattle.record.specs.Blank.{blankRecord};
 ghost use Rattle.record.specs.Table.{endOf, startOf};

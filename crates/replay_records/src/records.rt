@@ -2,7 +2,7 @@
 use answers::Taken;
 use answers::Written;
 use kinds::Density;
-use record::Ordering;
+use order::Ordering;
 use record::ResTableConfig;
 
 // The answer where there is no whole record: 01's 1 and 2 are one, as the Rust's error is.
@@ -126,9 +126,9 @@ fn took(answer: Taken) -> bool {
 
 // The answer on two records.
 fn compare_records(a: ResTableConfig, b: ResTableConfig, out: &mut [u8]) -> usize {
-    let at = buffer::put_byte(out, 0, yes(a.eq(b)));
-    let at = buffer::put_byte(out, at, order(a.cmp(b)));
-    buffer::put_byte(out, at, order(b.cmp(a)))
+    let at = buffer::put_byte(out, 0, yes(order::eq(a, b)));
+    let at = buffer::put_byte(out, at, order_number(order::cmp(a, b)));
+    buffer::put_byte(out, at, order_number(order::cmp(b, a)))
 }
 
 // No is 0, yes is 1.
@@ -137,7 +137,7 @@ fn yes(said: bool) -> u8 {
 }
 
 // The number of an order.
-fn order(ordering: Ordering) -> u8 {
+fn order_number(ordering: Ordering) -> u8 {
     match ordering {
         Ordering::Less => 0,
         Ordering::Equal => 1,

@@ -8,7 +8,8 @@ use native.Mathlib.Nat.{pow-suc, pow-succ', mul-assoc, mul-comm, zero-div, div-d
 use lib.ListN.{take, drop, getD}
 use lib.Seq.{drop-drop}
 use Rattle.record.specs.declared.ResTableConfig.{ResTableConfig}
-use Rattle.sheet.specs.Sheet.{bit, bits, saidOf, sheetOf}
+use Rattle.record.specs.Table.{bit}
+use Rattle.sheet.specs.Sheet.{bits, saidOf, sheetOf}
 
 -- a few bits in a row, each equal to its own
 pub bits4 : {a b c d x y z w : ℕ} → a ≡ x → b ≡ y → c ≡ z → d ≡ w → a + 2 * (b + 2 * (c + 2 * d)) ≡ x + 2 * (y + 2 * (z + 2 * (w + 2 * 0)))

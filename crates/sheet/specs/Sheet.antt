@@ -8,6 +8,7 @@ use Rattle.kinds.specs.Mode.{grammaticalGenderOf, uiModeOf, uiModeNightOf}
 use Rattle.kinds.specs.Screen.{layoutDirOf, screenSizeOf, screenLongOf, screenRoundOf, wideColorGamutOf, hdrOf, orientationOf, densityOf}
 use Rattle.record.specs.declared.ResTableConfig.{ResTableConfig}
 use Rattle.record.specs.Accessors.{mccMncOf, orientationTouchscreenDensityOf, keyboardNavigationInputFlagsOf, grammaticalInflectionOf, screenWidthHeightOf, sdkMinorVersionOf, screenLayoutUiSmallestWidthOf, screenWidthHeightDpOf, screenLayout2ColorModeOf}
+use Rattle.record.specs.Table.{bit}
 use Rattle.places.specs.Say.{Place}
 use Rattle.places.specs.Places.{placesOf}
 use Rattle.sheet.specs.declared.NetworkCode.{NetworkCode}
@@ -16,11 +17,6 @@ use Rattle.sheet.specs.declared.Sheet.{Sheet}
 -- the network code is silent when mnc is 0, else the stored number
 abbrev pub networkCodeOf : ℕ → NetworkCode
 networkCodeOf mnc = cond (eqb mnc 0) NetworkCode.Silent (NetworkCode.Code mnc)
-
--- a bit is 1 for yes
-abbrev pub bit : Bool → ℕ
-bit false = 0
-bit true = 1
 
 -- some answers as one number, a bit for each, the first lowest
 abbrev pub bits : List Bool → ℕ

@@ -24,7 +24,8 @@ ghost use lib.Dec.{eqb};
 ghost use lib.ListN.{take, drop};
 ghost use mathlib.Core.Bool.{not};
 ghost use Rattle.places.specs.Said.{kindSaid};
-ghost use Rattle.sheet.specs.Sheet.{bit, bits, saidOf};
+ghost use Rattle.record.specs.Table.{bit};
+ghost use Rattle.sheet.specs.Sheet.{bits, saidOf};
 
 // 1 for yes.
 fn bit_of(b: bool) -> u32

@@ -9,13 +9,13 @@ use lib.Dec.{lit<}
 use lib.ListN.{length, getD, take, drop, replicate, length-append, length-take, length-drop, List·getD-append}
 use lib.Seq.{ext-getD, getD-take, getD-drop, take-at}
 use Rattle.buffer.specs.Written.{Outcome}
-use Rattle.record.specs.Table.{part, le, allZero, startOf, widthOf}
+use Rattle.record.specs.Table.{part, le, allZero, startOf, widthOf, bit}
 use Rattle.record.specs.declared.ResTableConfig.{ResTableConfig}
 use Rattle.reading.specs.Reading.{reads, fieldBy, recordBy, plain, parseOf, parseTook, sizeOf, taken}
 use Rattle.reading.proofs.Limits.{start-end}
 use Rattle.reading.proofs.Records.{same}
 use Rattle.reading.proofs.Whole.{whole-took}
-use Rattle.writing.specs.Writing.{bytes4, bit, bytesOf, span, tidy, shown, writeOf, Shaped}
+use Rattle.writing.specs.Writing.{bytes4, bytesOf, span, tidy, shown, writeOf, Shaped}
 use Rattle.writing.proofs.Answers.{wrote-is, unread-zero, success-exactly}
 use Rattle.writing.proofs.Order.{end-within}
 use Rattle.writing.proofs.Places.{bytes-long, shown-in, shown-long}

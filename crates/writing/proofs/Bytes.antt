@@ -7,8 +7,8 @@ use native.Mathlib.Omega.{arith}
 use native.Mathlib.Decide.{decLt}
 use lib.ListN.{length, getD, drop, replicate, length-take, List·getD-eq-default}
 use lib.Seq.{getD-take, getD-drop}
-use Rattle.record.specs.Table.{part, le, allZero}
-use Rattle.writing.specs.Writing.{bytes4, bit}
+use Rattle.record.specs.Table.{part, le, allZero, bit}
+use Rattle.writing.specs.Writing.{bytes4}
 use Rattle.writing.proofs.Arms.{elements}
 use Rattle.writing.proofs.Zeros.{zeros-at}
 

@@ -9,7 +9,7 @@ use lib.Seq.{paste}
 use Rattle.answers.specs.declared.Refusal.{Refusal}
 use Rattle.buffer.specs.Written.{Outcome, written, refused}
 use Rattle.record.specs.declared.ResTableConfig.{ResTableConfig}
-use Rattle.record.specs.Table.{startOf, endOf, widthOf, allZero}
+use Rattle.record.specs.Table.{startOf, endOf, widthOf, allZero, bit}
 use Rattle.reading.specs.Reading.{reads, sizeOf, taken}
 
 -- p holds at some of the numbers below n
@@ -25,11 +25,6 @@ each (suc n) p = p n && each n p
 -- the four little-endian bytes of a word
 abbrev pub bytes4 : ℕ → List ℕ
 bytes4 x = x % 256 ∷ x / 256 % 256 ∷ x / 65536 % 256 ∷ x / 16777216 ∷ []
-
--- yes is 1
-abbrev pub bit : Bool → ℕ
-bit false = 0
-bit true = 1
 
 -- the bytes of each field, in the order of the table
 abbrev pub fieldsOf : ResTableConfig → List (List ℕ)

@@ -11,8 +11,8 @@ ghost use Prim.Native.Nat.{_+_, _<_, _≤_};
 ghost use lib.ListN.{drop, getD, length, replicate, take};
 ghost use lib.Seq.{paste};
 ghost use Rattle.buffer.specs.Written.{outcome};
-ghost use Rattle.record.specs.Table.{widthOf};
-ghost use Rattle.writing.specs.Writing.{Shaped, bit, bytes4, bytesOf, shown, span, tidy, writeOf};
+ghost use Rattle.record.specs.Table.{bit, widthOf};
+ghost use Rattle.writing.specs.Writing.{Shaped, bytes4, bytesOf, shown, span, tidy, writeOf};
 
 // Nothing to run: its contract shows that the arrays of every record have the lengths that the theorems on writing and
 // reading back ask for.

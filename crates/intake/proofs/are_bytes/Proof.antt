@@ -34,7 +34,7 @@ use denote.Triple.Entry.{onEntry}
 use denote.Triple.Spec.{Meets, tripleOf}
 use denote.Triple.Table.{entered}
 use denote.Triple.Walked.{says, Stays, stay-none-slice, walkOf, Walks, ends-at, walked, goes-none-slice, walk-meets}
-use Rattle.record.specs.Packed.{AllBytes}
+use Rattle.order.specs.Packed.{AllBytes}
 use Rattle.intake.proofs.Bytes.{one-more, placed}
 use Rattle.intake.proofs.are_bytes.Key.{name as #intake·are-bytes}
 use Rattle.intake.proofs.are_bytes as are-bytes

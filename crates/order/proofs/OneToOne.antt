@@ -1,0 +1,19 @@
+-- What an order tells fixes the order. Assumes nothing.
+use Prim.Native.Nat.{ℕ, zero, suc}
+use mathlib.Core.Path.{_≡_, refl, sym, ap, _∙_}
+use Rattle.order.specs.Order.{orderingTells}
+use Rattle.order.specs.declared.Ordering.{Ordering}
+
+-- two orders with one number are one
+pub tells-one : (o p : Ordering) → orderingTells o ≡ orderingTells p → o ≡ p
+tells-one o p e = sym (there o) ∙ (ap back e ∙ there p)
+  where
+    back : ℕ → Ordering
+    back zero = Ordering.Less
+    back (suc zero) = Ordering.Equal
+    back (suc (suc n)) = Ordering.Greater
+
+    there : (q : Ordering) → back (orderingTells q) ≡ q
+    there Ordering.Less = refl
+    there Ordering.Equal = refl
+    there Ordering.Greater = refl
