@@ -8,3 +8,5 @@ pub mod Showing
 pub mod Demand3
 pub mod OneOutcome
 pub mod Examples
+pub mod ByHand
+pub mod ReaderLaws
