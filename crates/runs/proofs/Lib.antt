@@ -10,3 +10,5 @@ pub mod OneOutcome
 pub mod Examples
 pub mod ByHand
 pub mod ReaderLaws
+pub mod OneReader
+pub mod ReaderStops
