@@ -1,9 +1,10 @@
 -- What walks by hand share: of functions that ask nothing of their callers and leave their parameters as they were passed.
---     Fact, Says, Promise      a fact of the arguments and the result; as a function's clauses; as its contract
+--     Ensures, Promise         what a function ensures of its arguments and its result; the same as a contract
+--     Fact, Promised           a plain fact of them; as a contract
 --     Known, Knowns            a type's machine values, and that they are of its MIR type; of a list of types
 --     Walk                     a run from the arguments, at their machine values, to the promise
---     leaves                   how a walk ends: with the tokens, what the result owns, and the fact
---     asks                     a call of a function that keeps its promise: the caller has the tokens, what the result owns, and the fact
+--     leaves                   how a walk ends: with the tokens, what the result owns, and what is ensured
+--     asks                     a call of a function that promises a fact: the caller has the tokens, what the result owns, and the fact
 --     var, part                a local is read; a field of a local. Its cell is entry n of the context
 --     sets, stores, gone       a local is assigned to, takes a call's result, is freed
 --     framed, kept             a function keeps its promise, from a walk of its MIR
@@ -27,7 +28,7 @@ use prog.Wp.{Heap, Env, Calls, Loops, WpFn, Closed, spotOf}
 use ghost.Atoms.{Atoms, sem}
 use sound.WpLaws.{FmC, fmOf}
 use contract.Lifetimes.{Lfts, Shares, AllOutlive}
-use contract.Monad.{Fun, fact, factI}
+use contract.Monad.{Fun, fact}
 use contract.Running.{GhostRules, Running, givenOf, tables, tablesOf}
 use types.Kit.{Given, Item, ‵, raw, _⊛_, given, some, later, mean, nth, put, Seq, Step, Post, Goal, runs, lands, frees, step}
 use types.Kit.{_$_, _∵_, !, qed, move, use1, split, learn, pick, frame, await, updating, now, show, check, by, done}
@@ -40,15 +41,20 @@ use denote.Signature.{Signature, typeAt, typesAt}
 use denote.Steps.{said, heard, peeks}
 use denote.Triple.Bound.{Bound, passed}
 use denote.Triple.Call.{calls-from}
-use denote.Triple.Clauses.{Clauses, Ended, Lasts, lasts, ensured, closing}
+use denote.Triple.Clauses.{Clauses, Ended, Lasts, AtExit, atExit, lasts, ensured, closing}
 use denote.Triple.Entry.{Args, Vals, Res, alive, onEntry}
 use denote.Triple.Spec.{Back, tripleOf}
 use denote.Triple.Statement.{Contract, Triple}
 use denote.Triple.Table.{entered}
 
--- what a function promises of its arguments and its result
+abbrev pub Ensures : {M : Type 1} (𝓤 : URA M) → Ended → Type 2
+Ensures 𝓤 T = (κs : Lfts (T .signature .lifetimes)) → Args (T .signature) κs → Res (T .signature) κs → AtExit T κs → SProp 𝓤
+
 abbrev pub Fact : Ended → Type 1
 Fact T = (κs : Lfts (T .signature .lifetimes)) → Args (T .signature) κs → Res (T .signature) κs → Type 0
+
+abbrev plainly : {M : Type 1} (𝓤 : URA M) (T : Ended) → Fact T → Ensures 𝓤 T
+plainly 𝓤 T φ κs a r end = fact 𝓤 (φ κs a r)
 
 -- nothing is to be said of any parameter's last value
 abbrev Silence : (T : Ended) (κs : Lfts (T .signature .lifetimes)) → Args (T .signature) κs → Type 0
@@ -83,12 +89,12 @@ module _ {M : Type 1} (𝓤 : URA M) (H : Heap 𝓤) (A : Atoms 𝓤) where
   abbrev Given-to : (T : Ended) → Bound 𝓤 H A (T .signature) → Item 𝓤
   Given-to T x = raw (onEntry 𝓤 H A (T .signature) (x .0) (x .1) (x .3) (x .4))
 
-  module _ (T : Ended) (φ : Fact T) where
+  module _ (T : Ended) (E : Ensures 𝓤 T) where
     abbrev S : Signature
     S = T .signature
 
     abbrev Says : Clauses 𝓤 T
-    Says κs a = record { ghost = Unit {0}; requires = λ _. emp 𝓤; ensures = λ _ r _. fact 𝓤 (φ κs a r) }
+    Says κs a = record { ghost = Unit {0}; requires = λ _. emp 𝓤; ensures = λ _. E κs a }
 
     abbrev pub Promise : Contract 𝓤
     Promise = tripleOf 𝓤 H A S (closing 𝓤 H A T Says)
@@ -98,9 +104,6 @@ module _ {M : Type 1} (𝓤 : URA M) (H : Heap 𝓤) (A : Atoms 𝓤) where
       abbrev Result : RattleType
       Result = typeAt (S .result) (x .0)
 
-      abbrev φ-at : Result .Denot → Type 0
-      φ-at = φ (x .0) (x .3)
-
       -- the tokens, and what the result owns at the machine value u
       abbrev Left : Val → Result .Denot → SProp 𝓤
       Left u r = Back 𝓤 H A S x u r
@@ -108,29 +111,22 @@ module _ {M : Type 1} (𝓤 : URA M) (H : Heap 𝓤) (A : Atoms 𝓤) where
       abbrev Told : Result .Denot → SProp 𝓤
       Told r = ensured 𝓤 H A T Says (x .0) (x .3) tt r
 
-      tells : Quiet T → (r : Result .Denot) → φ-at r → ent 𝓤 (emp 𝓤) (Told r)
+      -- what is ensured, where nothing is said of last values
+      abbrev Due : Quiet T → Result .Denot → SProp 𝓤
+      Due quiet r = E (x .0) (x .3) r (atExit T (x .0) (x .3) (quiet (x .0) (x .3) .0))
+
+      tells : (quiet : Quiet T) (r : Result .Denot) → ent 𝓤 (emp 𝓤) (Due quiet r) → ent 𝓤 (emp 𝓤) (Told r)
       tells quiet r e =
           let q : Silence T (x .0) (x .3) = quiet (x .0) (x .3) in
-          via 𝓤 _
-          (via 𝓤 _ (emp∗ 𝓤 (emp 𝓤)) (mono∗ 𝓤 (makes-shadow 𝓤 H A (lasts T (x .0) (x .3) (q .0)) (q .1 .0) (q .1 .1)) (factI 𝓤 (φ-at r) (emp 𝓤) e)))
-          (exI 𝓤 (λ (ws : Lasts T (x .0) (x .3)). sep 𝓤 (sem 𝓤 H A (lasts T (x .0) (x .3) ws)) (fact 𝓤 (φ-at r))) (q .0))
+          let Q : Lasts T (x .0) (x .3) → SProp 𝓤 =
+          λ ws. sep 𝓤 (sem 𝓤 H A (lasts T (x .0) (x .3) ws)) (E (x .0) (x .3) r (atExit T (x .0) (x .3) ws)) in
+          via 𝓤 (Q (q .0))
+          (via 𝓤 _ (emp∗ 𝓤 (emp 𝓤)) (mono∗ 𝓤 (makes-shadow 𝓤 H A (lasts T (x .0) (x .3) (q .0)) (q .1 .0) (q .1 .1)) e)) (exI 𝓤 Q (q .0))
 
-      pub leaves : Quiet T → (u : Val) (r : Result .Denot) → φ-at r → ent 𝓤 (Left u r) (Promise .post (x, tt) u)
+      pub leaves : (quiet : Quiet T) (u : Val) (r : Result .Denot) → ent 𝓤 (emp 𝓤) (Due quiet r) → ent 𝓤 (Left u r) (Promise .post (x, tt) u)
       leaves quiet u r e =
           qed W (raw (Left u r) ∷ []) ∵ updating ! $ now ! $ show ! (λ (r′ : Result .Denot). sep 𝓤 (Left u r′) (Told r′)) r $ frame ! $
           by ! (tells quiet r e)
-
-      -- what a caller has once the call has returned u
-      abbrev Answer : Val → Item 𝓤
-      Answer u = later (some (λ (r : Result .Denot). given (φ-at r × Is Result r (u ∷ [])) (raw (Left u r))))
-
-      answers : (u : Val) → ent 𝓤 (Promise .post (x, tt) u) (mean 𝓤 H A (Answer u))
-      answers u = W .laws .⇛-mono _ _ (exE 𝓤 _ (λ r.
-          qed W ((raw (alive 𝓤 H A S (x .0) (x .1)) ⊛ ‵ (Result .own r (u ∷ []))) ∷ raw (Told r) ∷ []) ∵ move ! (1 ∷ []) $
-          use1 W (raw (fact 𝓤 (φ-at r))) (exE 𝓤 _ (λ ws. snd∗ 𝓤 (sem 𝓤 H A (lasts T (x .0) (x .3) ws)) _)) $ heard ! (φ-at r) (λ e.
-          split ! $ move ! (1 ∷ []) $ peeks ! Result (Is Result) (shows 𝓤 H A Result) r (u ∷ []) (λ is.
-          show ! (λ (r′ : Result .Denot). guard 𝓤 (φ-at r′ × Is Result r′ (u ∷ [])) (Left u r′)) r $
-          check ! (e, is) $ move ! (1 ∷ 0 ∷ []) $ done !))))
 
     -- ---- a walk, from the arguments' machine values written out
     module _ (ns : (κs : Lfts (S .lifetimes)) → Knowns (typesAt (S .params) κs)) where
@@ -153,6 +149,30 @@ module _ {M : Type 1} (𝓤 : URA M) (H : Heap 𝓤) (A : Atoms 𝓤) where
           let Q : Vals S κs → SProp 𝓤 = λ us. run (flat Rs us) (Promise .post ((κs, y .0 .1, y .0 .2, a, us), tt)) in
           via 𝓤 _ (fst∗ 𝓤 _ (emp 𝓤)) (said 𝓤 H A S κs (y .0 .1) (spelt Rs (ns κs)) (told-all Rs (ns κs)) a Q (y .0 .4)
           (λ are. k κs (y .0 .1) (y .0 .2) a (all-typed 𝓤 H A Rs (lawfuls Rs (ns κs)) a (at κs a) are)))
+
+  abbrev pub Promised : (T : Ended) → Fact T → Contract 𝓤
+  Promised T φ = Promise T (plainly 𝓤 T φ)
+
+  -- ---- what a caller has once a call at x has returned u
+  module _ (T : Ended) (φ : Fact T) (W : Given 𝓤 H A) (x : Bound 𝓤 H A (T .signature)) (u : Val) where
+    abbrev Gave : RattleType
+    Gave = typeAt (T .signature .result) (x .0)
+
+    abbrev Fine : Gave .Denot → Type 0
+    Fine r = φ (x .0) (x .3) r × Is Gave r (u ∷ [])
+
+    abbrev Handed : Gave .Denot → SProp 𝓤
+    Handed r = Back 𝓤 H A (T .signature) x u r
+
+    abbrev Answer : Item 𝓤
+    Answer = later (some (λ (r : Gave .Denot). given (Fine r) (raw (Handed r))))
+
+    answers : ent 𝓤 (Promised T φ .post (x, tt) u) (mean 𝓤 H A Answer)
+    answers = W .laws .⇛-mono _ _ (exE 𝓤 _ (λ r.
+        qed W ((raw (alive 𝓤 H A (T .signature) (x .0) (x .1)) ⊛ ‵ (Gave .own r (u ∷ []))) ∷ raw (Told T (plainly 𝓤 T φ) W x r) ∷ []) ∵
+        move ! (1 ∷ []) $ use1 W (raw (fact 𝓤 (φ (x .0) (x .3) r))) (exE 𝓤 _ (λ ws. snd∗ 𝓤 (sem 𝓤 H A (lasts T (x .0) (x .3) ws)) _)) $
+        heard ! (φ (x .0) (x .3) r) (λ e. split ! $ move ! (1 ∷ []) $ peeks ! Gave (Is Gave) (shows 𝓤 H A Gave) r (u ∷ []) (λ is.
+        show ! (λ (r′ : Gave .Denot). guard 𝓤 (Fine r′) (Handed r′)) r $ check ! (e, is) $ move ! (1 ∷ 0 ∷ []) $ done !))))
 
 -- ---- steps of a walk
 module _ {M : Type 1} (𝓤 : URA M) (H : Heap 𝓤) (E : Env 𝓤 H) (i : ℕ) where
@@ -194,14 +214,14 @@ module _ {M : Type 1} {𝓤 : URA M} {H : Heap 𝓤} {A : Atoms 𝓤} {K : Type 
         → Step K W (put 𝓤 H A n (cell 𝓤 H E i fullShare u) Γ) (runs C Λ E rest q) Γ (lands C Λ E (place i []) u rest q)
     stores t n e wt = land t (from t (stop t)) (init t n e wt)
 
-    pub asks : K → FmC 𝓤 H (W .laws) C → {f : Name} {xs : List Operand} {d : Place} (T : Ended) (φ : Fact T) → Triple 𝓤 (C f) (Promise 𝓤 H A T φ)
-        → (x : Bound 𝓤 H A (T .signature)) → Opds K W (Given-to 𝓤 H A T x ∷ Γ) E xs (passed 𝓤 H A (T .signature) x)
+    pub asks : K → FmC 𝓤 H (W .laws) C → {f : Name} {xs : List Operand} {d : Place} (T : Ended) (φ : Fact T)
+        → Triple 𝓤 (C f) (Promised 𝓤 H A T φ) → (x : Bound 𝓤 H A (T .signature)) → Opds K W (Given-to 𝓤 H A T x ∷ Γ) E xs (passed 𝓤 H A (T .signature) x)
         → ((u : Val) (r : Res (T .signature) (x .0)) → φ (x .0) (x .3) r → Is (typeAt (T .signature .result) (x .0)) r (u ∷ [])
         → Seq K W (raw (Back 𝓤 H A (T .signature) x u r) ∷ Γ) (lands C Λ E d u rest q))
         → Seq K W (Given-to 𝓤 H A T x ∷ Γ) (runs C Λ E (seq (call f xs d) rest) q)
     asks t fm T φ met x os k =
         let P : SProp 𝓤 = mean 𝓤 H A (Given-to 𝓤 H A T x) in
-        calls-from t fm (Given-to 𝓤 H A T x) (passed 𝓤 H A (T .signature) x) (Promise 𝓤 H A T φ .post (x, tt))
+        calls-from t fm (Given-to 𝓤 H A T x) (passed 𝓤 H A (T .signature) x) (Promised 𝓤 H A T φ .post (x, tt))
         (via 𝓤 _ (via 𝓤 _ (emp∗ 𝓤 P) (comm∗ 𝓤 (emp 𝓤) P)) (met (x, tt))) os (λ u.
         use1 W (Answer 𝓤 H A T φ W x u) (answers 𝓤 H A T φ W x u) $ await t tt $ pick t (λ r. learn t (λ e. k u r (e .0) (e .1))))
 
@@ -217,7 +237,7 @@ module _ {M : Type 1} (𝓤 : URA M) (H : Heap 𝓤) (𝓜 : Model 𝓤 H) (𝓖
   unfolding tablesOf
   framed = fmOf 𝓤 H (givenOf 𝓤 H 𝓜 𝓖 .laws) (tablesOf 𝓤 H 𝓜 (tables 𝓤 H 𝓜 𝓡 γ))
 
-  pub kept : (k : Name) (f : Fn) → Closed 𝓤 H C Λ k f → (T : Ended) (φ : Fact T)
+  pub kept : (k : Name) (f : Fn) → Closed 𝓤 H C Λ k f → (T : Ended) (E : Ensures 𝓤 T)
       (ns : (κs : Lfts (T .signature .lifetimes)) → Knowns 𝓤 H (𝓖 .A) (typesAt (T .signature .params) κs))
-      → Walk 𝓤 H (𝓖 .A) T φ ns (WpFn 𝓤 H C Λ f) → Triple 𝓤 (𝓡 .run (γ k)) (Promise 𝓤 H (𝓖 .A) T φ)
-  kept k f closed T φ ns walk = entered 𝓤 H (Promise 𝓤 H (𝓖 .A) T φ) C Λ k f closed (walked 𝓤 H (𝓖 .A) T φ ns (WpFn 𝓤 H C Λ f) walk)
+      → Walk 𝓤 H (𝓖 .A) T E ns (WpFn 𝓤 H C Λ f) → Triple 𝓤 (𝓡 .run (γ k)) (Promise 𝓤 H (𝓖 .A) T E)
+  kept k f closed T E ns walk = entered 𝓤 H (Promise 𝓤 H (𝓖 .A) T E) C Λ k f closed (walked 𝓤 H (𝓖 .A) T E ns (WpFn 𝓤 H C Λ f) walk)

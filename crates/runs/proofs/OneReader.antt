@@ -1,5 +1,5 @@
--- Any two outcomes that a contract of the run reader allows for the same input are one. `read_at` has the contract of `step_at`, so that `one-step` is
--- its theorem. Assumes nothing.
+-- Any two outcomes that a contract of the run reader allows for the same input are one. `read_at` has the contract of `step_at`:
+-- `one-step` is its theorem. Assumes nothing.
 use Prim.Native.Nat.{ℕ}
 use mathlib.Core.Path.{_≡_}
 use mathlib.Core.List.{List}

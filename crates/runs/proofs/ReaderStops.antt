@@ -24,4 +24,5 @@ front-age b = (refl, refl)
 pub past-stops : (d : RunReader) → true ≡ isAge (d .age .0) → length (now (d .bytes)) < d .place
     → stepOf (d .age .0) (now (d .bytes)) (d .place) ≡ stepStays (d .place) (refusal 1)
 past-stops d known past =
-    step-refused (d .age .0) (now (d .bytes)) (d .place) known (λ e. omega arith) Refusal.FewerThan16 (past-end (now (d .bytes)) (d .place) (omega arith))
+    step-refused (d .age .0) (now (d .bytes)) (d .place) known (λ e. omega arith) Refusal.FewerThan16
+    (past-end (now (d .bytes)) (d .place) (omega arith))
