@@ -215,7 +215,8 @@ module _ {M : Type 1} {𝓤 : URA M} {H : Heap 𝓤} {A : Atoms 𝓤} {K : Type 
     stores t n e wt = land t (from t (stop t)) (init t n e wt)
 
     pub asks : K → FmC 𝓤 H (W .laws) C → {f : Name} {xs : List Operand} {d : Place} (T : Ended) (φ : Fact T)
-        → Triple 𝓤 (C f) (Promised 𝓤 H A T φ) → (x : Bound 𝓤 H A (T .signature)) → Opds K W (Given-to 𝓤 H A T x ∷ Γ) E xs (passed 𝓤 H A (T .signature) x)
+        → Triple 𝓤 (C f) (Promised 𝓤 H A T φ) → (x : Bound 𝓤 H A (T .signature))
+        → Opds K W (Given-to 𝓤 H A T x ∷ Γ) E xs (passed 𝓤 H A (T .signature) x)
         → ((u : Val) (r : Res (T .signature) (x .0)) → φ (x .0) (x .3) r → Is (typeAt (T .signature .result) (x .0)) r (u ∷ [])
         → Seq K W (raw (Back 𝓤 H A (T .signature) x u r) ∷ Γ) (lands C Λ E d u rest q))
         → Seq K W (Given-to 𝓤 H A T x ∷ Γ) (runs C Λ E (seq (call f xs d) rest) q)

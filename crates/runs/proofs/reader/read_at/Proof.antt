@@ -70,7 +70,8 @@ module _ {M : Type 1} (𝓤 : URA M) (H : Heap 𝓤) (A : Atoms 𝓤) (mem : Mem
         asks ! fm next.ended φ-next nexts (κs, qs, bounds, (d, tt), (u ∷ [], tt)) (and-then ! (var ! 1 refl) (no-more !)) (λ v r e′ is′.
         -- [what the result owns; _4; …; _3; …; _2; …; _1; …; room for _0; …]
         stores ! 9 refl (LL.lawful S.the-type S′.the-laws 𝓤 H A W .typed r _ is′ .0) $
-        returns ! (look ! 9 refl) $ move ! (9 ∷ 10 ∷ 7 ∷ 8 ∷ 5 ∷ 6 ∷ 3 ∷ 4 ∷ 1 ∷ 2 ∷ []) $ gone ! $ gone ! $ gone ! $ gone ! $ gone ! $ free0 ! $
+        returns ! (look ! 9 refl) $ move ! (9 ∷ 10 ∷ []) $ gone ! $ move ! (7 ∷ 8 ∷ []) $ gone ! $ move ! (5 ∷ 6 ∷ []) $ gone ! $
+        move ! (3 ∷ 4 ∷ []) $ gone ! $ move ! (1 ∷ 2 ∷ []) $ gone ! $ free0 ! $
         by ! (leaves 𝓤 H A read.ended ensures W (κs, qs, bounds, a, machineOf (madeOf a)) quiet v r
         (factI 𝓤 (Steps (madeOf a) r) (emp 𝓤) (subst (λ (x : RunReader). Steps x r) e e′))))))))))
 

@@ -19,7 +19,7 @@ use types.Run.{look, init, and-then, no-more, returns, enter, alloc1, alloc0, pa
 use denote.Builtin.{usize}
 use denote.Plain.{uint-vals}
 use denote.Struct.Rest.{own-put}
-use denote.Triple.Entry.{Args, Vals, onEntry}
+use denote.Triple.Entry.{Vals, onEntry}
 use Rattle.runs.specs.declared.reader.RunReader.{RunReader}
 use Rattle.runs.specs.Reader.{readerAt}
 use Rattle.runs.proofs.ByHand.{Ensures, Quiet, Knowns, Walk, leaves, var, part, sets, gone, kept}
@@ -66,7 +66,8 @@ module _ {M : Type 1} (𝓤 : URA M) (H : Heap 𝓤) (A : Atoms 𝓤) (mem : Mem
           sets ! (part ! 6 0 refl refl refl) 2 refl (tt, t .0 .1 .0) $ sets ! (part ! 6 2 refl refl refl) 0 refl (tt, t .0 .1 .1 .1 .0) $
           sets ! (agg ! (and-then ! (var ! 2 refl) (and-then ! (var ! 4 refl) (and-then ! (var ! 0 refl) (no-more !)))))
           8 refl (tt, (t .0 .1 .0, (t .1 .0 .1, (t .0 .1 .1 .1 .0, tt)))) $
-          returns ! (look ! 8 refl) $ move ! (8 ∷ 9 ∷ 6 ∷ 7 ∷ 4 ∷ 5 ∷ 2 ∷ 3 ∷ []) $ gone ! $ gone ! $ gone ! $ gone ! $ gone ! $ free0 ! $
+          returns ! (look ! 8 refl) $ move ! (8 ∷ 9 ∷ []) $ gone ! $ move ! (6 ∷ 7 ∷ []) $ gone ! $ move ! (4 ∷ 5 ∷ []) $ gone ! $
+          move ! (2 ∷ 3 ∷ []) $ gone ! $ gone ! $ free0 ! $
           by ! (leaves 𝓤 H A moved.ended ensures W (κs, qs, bounds, a, at κs qs (a .0) (a .1 .0)) quiet (T′.lowered d) d
           (factI 𝓤 (d ≡ to (a .0) (a .1 .0)) (emp 𝓤) refl)))))))
 

@@ -59,7 +59,8 @@ module _ {M : Type 1} (𝓤 : URA M) (H : Heap 𝓤) (A : Atoms 𝓤) (mem : Mem
           (and-then ! (var ! 5 refl) (and-then ! (var ! 3 refl) (and-then ! (var ! 1 refl) (no-more !)))) (λ u r e is.
           -- [what the result owns; _4; …; _3; …; _2; …; _1; …; room for _0; …]
           stores ! 9 refl (LL.lawful S.the-type S′.the-laws 𝓤 H A W .typed r _ is .0) $
-          returns ! (look ! 9 refl) $ move ! (9 ∷ 10 ∷ 7 ∷ 8 ∷ 5 ∷ 6 ∷ 3 ∷ 4 ∷ 1 ∷ 2 ∷ []) $ gone ! $ gone ! $ gone ! $ gone ! $ gone ! $ free0 ! $
+          returns ! (look ! 9 refl) $ move ! (9 ∷ 10 ∷ []) $ gone ! $ move ! (7 ∷ 8 ∷ []) $ gone ! $ move ! (5 ∷ 6 ∷ []) $ gone ! $
+          move ! (3 ∷ 4 ∷ []) $ gone ! $ move ! (1 ∷ 2 ∷ []) $ gone ! $ free0 ! $
           by ! (leaves 𝓤 H A next.ended ensures W (κs, qs, bounds, a, (T′.lowered (a .0) ∷ [], tt)) quiet u r
           (factI 𝓤 (Steps (a .0) r) (emp 𝓤) e))))))))
 
