@@ -10,7 +10,7 @@ use Rattle.answers.specs.declared.Written.{Written}
 use Rattle.answers.specs.Numbers.{numberOf}
 use Rattle.answers.specs.Tells.{success, refusal, takenTells, writtenTells}
 use Rattle.buffer.specs.Written.{Outcome, outcome}
-use Rattle.record.specs.declared.order.Ordering.{Ordering}
+use Rattle.order.specs.declared.Ordering.{Ordering}
 use Rattle.order.specs.Order.{orderOf, orderingTells}
 use Rattle.reading.specs.declared.Parsed.{Parsed}
 use Rattle.reading.specs.Reading.{ParseOutcome, parsedOutcome, parseOf, amountOf, ifWhole, plain, taken, sizeOf}

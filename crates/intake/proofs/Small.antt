@@ -13,7 +13,7 @@ use Rattle.answers.specs.declared.Told.{Told}
 use Rattle.answers.specs.Numbers.{numberOf}
 use Rattle.answers.specs.Tells.{success, refusal}
 use Rattle.buffer.specs.Written.{Outcome, written, wrote, refused}
-use Rattle.record.specs.declared.order.Ordering.{Ordering}
+use Rattle.order.specs.declared.Ordering.{Ordering}
 use Rattle.record.specs.Ages.{isAge}
 use Rattle.order.specs.Order.{orderOf, orderingTells}
 use Rattle.order.specs.Packed.{AllBytes}

@@ -10,7 +10,7 @@ use Rattle.buffer.specs.Written.{Outcome, outcome}
 use Rattle.reading.specs.declared.Parsed.{Parsed}
 use Rattle.reading.specs.Reading.{ParseOutcome, parsedOutcome}
 use Rattle.record.specs.declared.ResTableConfig.{ResTableConfig}
-use Rattle.record.specs.declared.order.Ordering.{Ordering}
+use Rattle.order.specs.declared.Ordering.{Ordering}
 use Rattle.order.specs.Order.{equalOf, orderOf, orderingTells}
 
 -- the record of a parse is the one that its outcome gives

@@ -14,10 +14,10 @@ use Rattle.marking.specs.Marks.{marksOutcome}
 use Rattle.places.specs.Places.{textOf}
 use Rattle.text.specs.Text.{plainText, agedText}
 use Rattle.runs.specs.Runs.{stepOf, offsetsOf}
-use Rattle.runs.specs.Readers.{findsOf, standsOf, lastOf}
+use Rattle.runs.specs.Finds.{findsOf, standsOf, lastOf}
 use Rattle.runs.proofs.Alike.{Alike, aged-alike}
 use Rattle.runs.proofs.Stops.{each-whole}
-use Rattle.runs.proofs.Readers.{finds-are, stands-are, last-tells}
+use Rattle.runs.proofs.Finding.{finds-are, stands-are, last-tells}
 use Rattle.runs.proofs.Showing.{ZeroFrom, Shows, parse-plain, step-gives, same-marks, shows-zero, zero-shows, shows-plain, newer-shows, byte-refuses}
 
 -- what the demand says of a record, the bytes t from its place on, with buffers x and y of equal length for the texts

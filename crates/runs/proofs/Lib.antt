@@ -2,7 +2,7 @@ pub mod Rest
 pub mod Steps
 pub mod Walking
 pub mod Stops
-pub mod Readers
+pub mod Finding
 pub mod Alike
 pub mod Showing
 pub mod Demand3

@@ -4,3 +4,4 @@ pub mod Examples
 pub mod Long
 pub mod OneOutcome
 pub mod Same
+pub mod Exactly

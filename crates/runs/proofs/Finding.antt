@@ -14,7 +14,7 @@ use Rattle.answers.specs.Tells.{success, refusal}
 use Rattle.record.specs.Ages.{isAge}
 use Rattle.reading.specs.Reading.{amountOf}
 use Rattle.runs.specs.Runs.{StepOutcome, stepOf, offsetsIn, stopIn, offsetsOf, stopOf, most, reasonAt}
-use Rattle.runs.specs.Readers.{found, findsIn, standsIn, findsOf, standsOf, lastOf}
+use Rattle.runs.specs.Finds.{found, findsIn, standsIn, findsOf, standsOf, lastOf}
 use Rattle.runs.proofs.Steps.{step-ended, step-refused, step-found}
 use Rattle.runs.proofs.Walking.{fits, offset-next, stop-next, offset-none, stop-here, reason-end, reason-refused}
 use Rattle.runs.proofs.Stops.{whole, not-whole, front, stop-not-whole}
