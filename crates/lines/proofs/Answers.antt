@@ -1,12 +1,12 @@
 -- What the parts of a line are, by what was read and answered, and what a call for a line comes to in each case. Assumes nothing.
-use Prim.Native.Nat.{ℕ, suc, _+_, _≤_, _<_}
-use mathlib.Core.Path.{_≡_, refl, sym, ap, _∙_}
-use mathlib.Core.Bool.{Bool, true, false, cond}
-use mathlib.Core.List.{List, [], _∷_, _++_, append-nil}
+use Prim.Native.Nat.{ℕ, _≤_, _<_}
+use mathlib.Core.Path.{_≡_, sym, ap, _∙_}
+use mathlib.Core.Bool.{true, false, cond}
+use mathlib.Core.List.{List, _++_, append-nil}
 use native.Mathlib.Omega.{arith}
 use native.Mathlib.Decide.{decLe}
 use lib.Dec.{eqb}
-use lib.ListN.{length, drop, drop-of-length-le}
+use lib.ListN.{length, drop-of-length-le}
 use borrow.Author.Tests.{le-leb, lt-leb, ne-eqb}
 use Rattle.answers.specs.declared.Refusal.{Refusal}
 use Rattle.answers.specs.declared.Written.{Written}
@@ -15,10 +15,9 @@ use Rattle.answers.specs.Tells.{success, writtenTells}
 use Rattle.answers.proofs.OneToOne.{number-pos}
 use Rattle.buffer.specs.Ascii.{ascii}
 use Rattle.buffer.specs.Decimal.{decimal}
-use Rattle.buffer.specs.Written.{Outcome, outcome, written, wrote}
+use Rattle.buffer.specs.Written.{Outcome, outcome, written}
 use Rattle.buffer.proofs.Writing.{written-fits, written-short}
 use Rattle.record.specs.Ages.{isAge}
-use Rattle.record.specs.declared.ResTableConfig.{ResTableConfig}
 use Rattle.record.proofs.Twelve.{age-bounds}
 use Rattle.reading.specs.declared.Parsed.{Parsed}
 use Rattle.reading.specs.Reading.{ParseOutcome, parsedOutcome, parseAged, amountOf, reads, fieldBy, recordBy, aged, sizeOf, taken}
@@ -29,7 +28,7 @@ use Rattle.places.specs.Places.{textOf}
 use Rattle.lines.specs.declared.Cursor.{Cursor}
 use Rattle.lines.specs.declared.Lined.{Lined}
 use Rattle.lines.specs.Shown.{shownWords, shownText}
-use Rattle.lines.specs.Lines.{LineOutcome, newline, space, recordLine, linedOutcome, lineWritten}
+use Rattle.lines.specs.Lines.{newline, space, recordLine, linedOutcome, lineWritten}
 
 -- a refusal's number is none of a success
 pub refused-number : (why : Refusal) → eqb (numberOf why) 0 ≡ false

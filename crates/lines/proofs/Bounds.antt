@@ -1,21 +1,21 @@
 -- No line is longer than 1,066 bytes, for an index that is at most its place, and a place and a size of at most 65,536. Assumes nothing.
-use Prim.Native.Nat.{ℕ, suc, _+_, _*_, _≤_, _<_}
-use mathlib.Core.Path.{_≡_, refl, sym, ap, _∙_}
+use Prim.Native.Nat.{ℕ, suc, _+_, _≤_}
+use mathlib.Core.Path.{_≡_}
 use mathlib.Core.Bool.{Bool, true, false, cond}
-use mathlib.Core.List.{List, [], _∷_, _++_}
+use mathlib.Core.List.{List}
 use native.Mathlib.Omega.{arith}
 use lib.ListN.{length, length-append}
 use Rattle.answers.specs.Tells.{success}
 use Rattle.buffer.specs.Ascii.{ascii}
 use Rattle.buffer.specs.Decimal.{decimal}
 use Rattle.buffer.proofs.Digits.{decimal-long}
-use Rattle.reading.specs.Reading.{amountOf, aged, sizeOf, taken}
+use Rattle.reading.specs.Reading.{amountOf, aged, sizeOf}
 use Rattle.reading.proofs.Whole.{took-says}
-use Rattle.marking.specs.Marks.{heldBack, marksOf}
+use Rattle.marking.specs.Marks.{heldBack}
 use Rattle.marking.proofs.Marking.{marks-length}
 use Rattle.places.specs.Places.{textOf}
 use Rattle.lines.specs.Shown.{shownWords, shownText}
-use Rattle.lines.specs.Lines.{newline, space, ageLine, stopLine, recordLine}
+use Rattle.lines.specs.Lines.{ageLine, stopLine, recordLine}
 use Rattle.lines.proofs.Escapes.{shown-long}
 use Rattle.lines.proofs.Ranges.{Bytes, aged-long}
 

@@ -1,12 +1,12 @@
 -- What a call for a line comes to, for each cursor and each of its answers. Assumes nothing.
-use Prim.Native.Nat.{ℕ, suc, _+_, _-_, _≤_, _<_, min}
-use mathlib.Core.Path.{_≡_, refl, sym, ap, _∙_}
-use mathlib.Core.Bool.{Bool, true, false, cond}
+use Prim.Native.Nat.{ℕ, _+_, _-_, _≤_, _<_, min}
+use mathlib.Core.Path.{_≡_, sym, ap, _∙_}
+use mathlib.Core.Bool.{true, false, cond}
 use mathlib.Core.List.{List, []}
 use native.Mathlib.Omega.{arith}
 use native.Mathlib.Numerals.{add-one}
 use native.Mathlib.Decide.{decLe}
-use lib.Dec.{eqb, leb}
+use lib.Dec.{eqb}
 use lib.ListN.{length, take, drop, length-drop, drop-of-length-le}
 use lib.Seq.{take-all, take-nil, drop-length}
 use borrow.Author.Tests.{lt-ltb, le-ltb, le-leb}
@@ -18,7 +18,7 @@ use Rattle.answers.specs.Tells.{success, refusal, takenTells, writtenTells}
 use Rattle.buffer.specs.Written.{outcome, written}
 use Rattle.buffer.proofs.Writing.{written-fits}
 use Rattle.record.specs.Ages.{isAge}
-use Rattle.reading.specs.Reading.{amountOf, taken, ifWhole, ifAge}
+use Rattle.reading.specs.Reading.{amountOf}
 use Rattle.reading.proofs.Whole.{age-known, age-unknown, took-says, took-whole, refused-whole}
 use Rattle.runs.specs.Runs.{reasonAt}
 use Rattle.lines.specs.declared.Cursor.{Cursor}
@@ -27,7 +27,10 @@ use Rattle.lines.specs.Lines.{LineOutcome, ageLine, stopLine, recordLine
 use Rattle.lines.proofs.Answers.{went}
 
 -- the bytes from a place on, which may be past their end
-pub rest-is : (s : List ℕ) (p from : ℕ) → from ≡ min p (length s) → take (length s - from) (drop from s) ≡ drop p s
+abbrev pub rest : List ℕ → ℕ → List ℕ
+rest s from = take (length s - from) (drop from s)
+
+rest-is : (s : List ℕ) (p from : ℕ) → from ≡ min p (length s) → rest s from ≡ drop p s
 rest-is s p from e =
     elim (decLe p (length s)) [
       | yes h ↦ let f : from ≡ p = omega arith in rw f (take-all (length s - p) (drop p s) (omega (arith, length-drop p s)))
@@ -36,15 +39,15 @@ rest-is s p from e =
     ]
 
 -- what `amount` answers of them
-module _ (p : ℕ) (s rest : List ℕ) (is : rest ≡ drop p s) (amount : Taken) (told : takenTells amount ≡ amountOf rest) where
-  pub took : (t : ℕ) → amount ≡ Taken.Took t → success t ≡ amountOf rest
+module _ (s : List ℕ) (p from : ℕ) (start : from ≡ min p (length s)) (amount : Taken) (told : takenTells amount ≡ amountOf (rest s from)) where
+  pub took : (t : ℕ) → amount ≡ Taken.Took t → success t ≡ amountOf (rest s from)
   took t e = rw e at told
 
   -- a record that stands there whole lies within the bytes
-  pub within : (t : ℕ) → amount ≡ Taken.Took t → length s ≤ 65536 → (p + length rest ≤ 65536) × (p + t ≤ 65536)
+  pub within : (t : ℕ) → amount ≡ Taken.Took t → length s ≤ 65536 → (p + length (rest s from) ≤ 65536) × (p + t ≤ 65536)
   within t e h =
-      let w = took-says rest t (took t e) in
-      let n : length rest ≡ length s - p = ap length is ∙ length-drop p s in
+      let w = took-says (rest s from) t (took t e) in
+      let n : length (rest s from) ≡ length s - p = ap length (rest-is s p from start) ∙ length-drop p s in
       let a = w .0 in
       let b = w .1 in (omega arith, omega arith)
 
@@ -66,29 +69,29 @@ module _ (a i p : ℕ) (s old : List ℕ) where
   unfolding lineAt after
   past-place h = rw (lt-ltb p i h) (none-written here Cursor.End old)
 
-  -- the bytes from the place on, and what `amount` answers of them
-  module _ (rest : List ℕ) (is : rest ≡ drop p s) (amount : Taken) (told : takenTells amount ≡ amountOf rest) where
-    module _ (h : i ≤ p) (answer : Written) (new : List ℕ) (lined : Lined) where
-      -- a record stands there whole
-      pub record-went : (t : ℕ) → amount ≡ Taken.Took t → outcome answer new ≡ written (recordLine a i p rest) old
-          → (lined .answer ≡ answer) × (lined .cursor ≡ cond (eqb (writtenTells answer .number) 0) (Cursor.Record (i + 1) (p + t)) here)
-          → linedOutcome lined new ≡ came
-      unfolding lineAt after
-      record-went t e o g =
-          let w = took p s rest is amount told t e in
-          rw (le-ltb p i h, ← is, took-whole rest _ _ t w, took-whole rest _ _ t w, ← took-says rest t w .0, ← add-one i)
-          (went _ old here _ answer new lined o g)
+  module _ (from : ℕ) (start : from ≡ min p (length s)) (amount : Taken) (told : takenTells amount ≡ amountOf (rest s from))
+      (h : i ≤ p) (answer : Written) (new : List ℕ) (lined : Lined) where
+    -- a record stands there whole
+    pub record-went : (t : ℕ) → amount ≡ Taken.Took t → outcome answer new ≡ written (recordLine a i p (rest s from)) old
+        → (lined .answer ≡ answer) × (lined .cursor ≡ cond (eqb (writtenTells answer .number) 0) (Cursor.Record (i + 1) (p + t)) here)
+        → linedOutcome lined new ≡ came
+    unfolding lineAt after
+    record-went t e o g =
+        let w = took s p from start amount told t e in
+        rw (le-ltb p i h, ← rest-is s p from start, took-whole (rest s from) _ _ t w, took-whole (rest s from) _ _ t w, ← took-says (rest s from) t w .0, ← add-one i)
+        (went _ old here _ answer new lined o g)
 
-      -- none does
-      pub stop-went : (why : Refusal) (number : ℕ) → amount ≡ Taken.Refused why → number ≡ cond (eqb p (length s)) 0 (numberOf why)
-          → outcome answer new ≡ written (stopLine p number) old
-          → (lined .answer ≡ answer) × (lined .cursor ≡ cond (eqb (writtenTells answer .number) 0) Cursor.End here)
-          → linedOutcome lined new ≡ came
-      unfolding lineAt after reasonAt
-      stop-went why number e n o g =
-          let w : refusal (numberOf why) ≡ amountOf rest = rw e at told in
-          rw (le-ltb p i h, ← is, refused-whole rest _ _ why w, refused-whole rest _ _ why w, refused-whole rest _ _ why w, ← n)
-          (went _ old here _ answer new lined o g)
+    -- none does
+    pub stop-went : (why : Refusal) (number : ℕ) → amount ≡ Taken.Refused why → number ≡ cond (eqb p (length s)) 0 (numberOf why)
+        → outcome answer new ≡ written (stopLine p number) old
+        → (lined .answer ≡ answer) × (lined .cursor ≡ cond (eqb (writtenTells answer .number) 0) Cursor.End here)
+        → linedOutcome lined new ≡ came
+    unfolding lineAt after reasonAt
+    stop-went why number e n o g =
+        let x = rest s from in
+        let w : refusal (numberOf why) ≡ amountOf x = rw e at told in
+        rw (le-ltb p i h, ← rest-is s p from start, refused-whole x _ _ why w, refused-whole x _ _ why w, refused-whole x _ _ why w, ← n)
+        (went _ old here _ answer new lined o g)
 
 -- the whole call
 module _ (a : ℕ) (s : List ℕ) (c : Cursor) (old : List ℕ) where

@@ -1,7 +1,7 @@
 -- 01, "The listing": its lines, the calls that give one line at a time, and the whole. Assumes nothing.
 use Prim.Native.Nat.{ℕ, suc, _+_}
 use mathlib.Core.List.{List, [], _∷_, _++_}
-use mathlib.Core.Bool.{cond}
+use mathlib.Core.Bool.{Bool, cond}
 use lib.Dec.{leb, ltb}
 use lib.ListN.{length, drop}
 use Rattle.answers.specs.declared.Refusal.{Refusal}
@@ -36,8 +36,8 @@ unfoldable pub recordLine : ℕ → ℕ → ℕ → List ℕ → List ℕ
 recordLine a i p r =
     decimal i ++ space ++ decimal p ++ space ++ decimal (sizeOf r) ++ space ++ marksOf a r ++ space ++ shownText a r ++ newline
 
--- the line at a cursor of s: the age at the start; at index i and place p the record that stands there whole, else the stop; at
--- the end none, and none where the index is past the place, as in no listing
+-- the line at a cursor: at the start the age; at index i and place p the record that stands there whole, else the stop; none at
+-- the end, and none where an index is past its place, which is so in no listing
 unfoldable pub lineAt : ℕ → List ℕ → Cursor → List ℕ
 lineAt a s Cursor.Start = ageLine a
 lineAt a s (Cursor.Record i p) =
@@ -68,10 +68,14 @@ lineRefused why c old = record { does = refused why old; goes = c }
 abbrev pub lineWritten : List ℕ → Cursor → Cursor → List ℕ → LineOutcome
 lineWritten w c next old = record { does = written w old; goes = cond (leb (length w) (length old)) next c }
 
+-- more than 65,536 bytes of input
+abbrev pub tooMuch : List ℕ → Bool
+tooMuch s = ltb 65536 (length s)
+
 -- a call for the line at cursor c of s, for a reader of age a: 7, 3, then 5
 unfoldable pub lineOf : ℕ → List ℕ → Cursor → List ℕ → LineOutcome
 lineOf a s c old =
-    cond (ltb 65536 (length s)) (lineRefused Refusal.TooMuchInput c old)
+    cond (tooMuch s) (lineRefused Refusal.TooMuchInput c old)
     (ifAge a (λ why. lineRefused why c old) (lineWritten (lineAt a s c) c (after s c) old))
 
 -- a row of calls, one for each of the lent buffers, each going on with the cursor that the one before gave back
@@ -93,5 +97,5 @@ recordLines a s i (p ∷ ps) = recordLine a i p (drop p s) ∷ recordLines a s (
 -- and stops at 0 with 7
 unfoldable pub listingOf : ℕ → List ℕ → List (List ℕ)
 listingOf a s =
-    cond (ltb 65536 (length s)) (ageLine a ∷ stopLine 0 7 ∷ [])
+    cond (tooMuch s) (ageLine a ∷ stopLine 0 7 ∷ [])
     (ageLine a ∷ recordLines a s 0 (offsetsOf s 0) ++ (stopLine (stopOf s 0) (reasonAt s (stopOf s 0)) ∷ []))

@@ -101,7 +101,7 @@ fn put_marks(out: &mut [u8], at: usize, bytes: &[u8], age: Age) -> usize
     put(out, at, &letters)
 }
 
-// Puts the text of a record, unless one of its t bytes holds it back.
+// Puts the text of a record, or "%!" where one of its t bytes at the age or later isn't zero.
 fn put_unless_held(
     out: &mut [u8],
     at: usize,

@@ -8,26 +8,6 @@ ghost use Rattle.buffer.specs.Put.{Put};
 ghost use Rattle.places.specs.Places.{textOf};
 ghost use Rattle.lines.specs.Shown.{escaped, escapedAll, shownWords, visible};
 
-// The capital hexadecimal digits.
-const DIGITS: [u8; 16] = [
-    b'0',
-    b'1',
-    b'2',
-    b'3',
-    b'4',
-    b'5',
-    b'6',
-    b'7',
-    b'8',
-    b'9',
-    b'A',
-    b'B',
-    b'C',
-    b'D',
-    b'E',
-    b'F',
-];
-
 // Whether a byte stands in a line as it is.
 fn is_visible(b: u8) -> bool
     ensures { λ r. ⌜ r ≡ visible b ⌝ }
@@ -48,11 +28,12 @@ fn put_shown_byte(out: &mut [u8], at: usize, b: u8) -> usize
     if is_visible(b) {
         return put_byte(out, at, b);
     }
+    let digits = b"0123456789ABCDEF";
     let high = (b / 16) as usize;
     let low = (b % 16) as usize;
     let sign = put_byte(out, at, b'%');
-    let first = put_byte(out, sign, DIGITS[high]);
-    put_byte(out, first, DIGITS[low])
+    let first = put_byte(out, sign, digits[high]);
+    put_byte(out, first, digits[low])
 }
 
 // Puts the bytes of a text.

@@ -1,5 +1,4 @@
 -- The parts of the line are put in a row. Assumes nothing.
-use native.Mathlib.Omega.{arith}
 use denote.Ref.{now}
 use borrow.Author.Needs.{needs}
 use Rattle.buffer.proofs.Putting.{put-put}

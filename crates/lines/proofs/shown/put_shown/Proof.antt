@@ -1,6 +1,5 @@
 -- The text is put into a buffer of its own, which holds it, and shown from there. Assumes nothing.
 use mathlib.Core.Path.{sym}
-use native.Mathlib.Omega.{arith}
 use lib.Seq.{length-take-le}
 use borrow.Author.Needs.{needs}
 use Rattle.buffer.proofs.Putting.{put-most}

@@ -14,5 +14,5 @@ put-shown-byte-spec =
     (λ c. rw (escaped-same _ (sym (c .before .before .before .before .if1 .taken) ∙ c .before .before .before .before .before .is-visible .ensures)) (c .before .before .put-byte .ensures))
     (λ c. search needs) (λ c. search needs) (λ c κs. search needs) (λ c. search needs) (λ c κs. search needs) (λ c. search needs)
     (λ c κs. search needs) (λ c. search needs)
-    (λ c. rw (escaped-hex _ (sym (c .before .before .before .before .before .before .before .before .before .before .before .before .if1 .left) ∙ c .before .before .before .before .before .before .before .before .before .before .before .before .before .is-visible .ensures))
-    (put-put (put-put (c .before .before .before .before .before .before .before .before .before .before .put-byte2 .ensures) (c .before .before .before .before .before .before .put-byte3 .ensures)) (c .before .before .put-byte4 .ensures))))
+    (λ c. rw (escaped-hex _ (sym (c .before .before .before .before .before .before .before .before .before .before .before .before .before .before .before .if1 .left) ∙ c .before .before .before .before .before .before .before .before .before .before .before .before .before .before .before .before .is-visible .ensures))
+    (put-put (put-put (c .before .before .before .before .before .before .before .before .before .before .before .before .put-byte2 .ensures) (c .before .before .before .before .before .before .before .put-byte3 .ensures)) (c .before .before .put-byte4 .ensures))))
