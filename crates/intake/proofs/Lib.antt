@@ -1,6 +1,5 @@
 pub mod Answers
 pub mod Bytes
-pub mod Fits
 pub mod OneOutcome
 pub mod Packing
 pub mod Small

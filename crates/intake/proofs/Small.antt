@@ -7,7 +7,7 @@ use mathlib.Core.List.{List}
 use native.Mathlib.Omega.{arith}
 use native.Mathlib.Decide.{decLt}
 use lib.Dec.{leb, lit<}
-use lib.ListN.{length, drop, length-take}
+use lib.ListN.{length}
 use Rattle.answers.specs.declared.Refusal.{Refusal}
 use Rattle.answers.specs.declared.Told.{Told}
 use Rattle.answers.specs.Numbers.{numberOf}
@@ -16,17 +16,15 @@ use Rattle.buffer.specs.Written.{Outcome, written, wrote, refused}
 use Rattle.order.specs.declared.Ordering.{Ordering}
 use Rattle.record.specs.Ages.{isAge}
 use Rattle.order.specs.Order.{orderOf, orderingTells}
-use Rattle.order.specs.Packed.{AllBytes}
-use Rattle.record.specs.Table.{part}
+use Rattle.record.specs.Table.{Bytes}
 use Rattle.reading.specs.Reading.{ifWhole, ifAge, amountOf, plain, aged, taken, sizeOf}
 use Rattle.reading.proofs.Whole.{whole-short, whole-cut, whole-took}
 use Rattle.marking.specs.Marks.{marksOf, marksOutcome, heldBack}
 use Rattle.marking.proofs.Marking.{marks-length}
 use Rattle.places.specs.Places.{textOf}
 use Rattle.text.specs.Text.{plainText, agedText}
+use Rattle.text.proofs.Ranges.{part-below, plain-long, aged-long}
 use Rattle.intake.specs.Intake.{orderTold}
-use Rattle.intake.proofs.Bytes.{all-part, word-most}
-use Rattle.intake.proofs.Fits.{plain-most, aged-most}
 
 -- a number below 8 and an amount below 2^32, which is 0 where the number isn't
 pub record Small (t : Told) : Type 0 where
@@ -80,21 +78,21 @@ written-small w old h =
     chosen Tells (leb (length w) (length old)) (wrote w old) (refused Refusal.ShortBuffer old) (success-small (length w) h) (refusal-small Refusal.ShortBuffer)
 
 -- of taking: size is a word of 32 bits
-pub take-small : (s : List ℕ) → AllBytes s → Small (amountOf s)
+pub take-small : (s : List ℕ) → Bytes s → Small (amountOf s)
 take-small s bytes =
     by-whole Small _ _ refusal-small s
-    (λ whole. success-small (taken s) (omega (arith, word-most (part s 0 4) (all-part s 0 4 bytes) (omega (arith, length-take 4 (drop 0 s))))))
+    (λ whole. success-small (taken s) (omega (arith, part-below 4 0 s bytes)))
 
 -- of plain text and of aged text: no text is longer than 344 bytes
-pub text-small : (s old : List ℕ) → AllBytes s → Small (plainText s old .tells)
+pub text-small : (s old : List ℕ) → Bytes s → Small (plainText s old .tells)
 text-small s old bytes =
-    by-whole Tells _ _ refusal-small s (λ whole. written-small (textOf (plain s)) old (omega (arith, plain-most s bytes whole)))
+    by-whole Tells _ _ refusal-small s (λ whole. written-small (textOf (plain s)) old (omega (arith, plain-long s bytes)))
 
-pub aged-small : (a : ℕ) (s old : List ℕ) → AllBytes s → Small (agedText a s old .tells)
+pub aged-small : (a : ℕ) (s old : List ℕ) → Bytes s → Small (agedText a s old .tells)
 aged-small a s old bytes =
     by-age Tells _ _ refusal-small a
     (by-whole Tells _ _ refusal-small s
-    (λ whole. chosen Tells (heldBack a s) (refused Refusal.HeldBack old) _ (refusal-small Refusal.HeldBack) (written-small (textOf (aged a s)) old (omega (arith, aged-most s bytes whole a)))))
+    (λ whole. chosen Tells (heldBack a s) (refused Refusal.HeldBack old) _ (refusal-small Refusal.HeldBack) (written-small (textOf (aged a s)) old (omega (arith, aged-long a s bytes)))))
 
 -- of marks: there are fourteen
 pub marks-small : (a : ℕ) (s old : List ℕ) → Small (marksOutcome a s old .tells)

@@ -14,13 +14,13 @@ ghost use mathlib.Core.Path.{_≡_};
 ghost use Prim.Native.Nat.{_<_};
 ghost use Rattle.marking.specs.Marks.{marksOutcome};
 ghost use Rattle.reading.specs.Reading.{amountOf};
-ghost use Rattle.order.specs.Packed.{AllBytes};
+ghost use Rattle.record.specs.Table.{Bytes};
 ghost use Rattle.text.specs.Text.{agedText, plainText};
 ghost use Rattle.intake.specs.Intake.{answerOutcome, answerTells, orderTold};
 
 // What the type of a slice says of its elements, for the callers' proofs: it does nothing.
 fn are_bytes(bytes: &[u8])
-    ensures { λ _. ⌜ AllBytes (now (bytes .entry)) ⌝ }
+    ensures { λ _. ⌜ Bytes (now (bytes .entry)) ⌝ }
 {}
 
 // What a call tells as one number.

@@ -9,6 +9,7 @@ use Rattle.answers.specs.Tells.{success}
 use Rattle.buffer.specs.Ascii.{ascii}
 use Rattle.buffer.specs.Decimal.{decimal}
 use Rattle.buffer.proofs.Digits.{decimal-long}
+use Rattle.record.specs.Table.{Bytes}
 use Rattle.reading.specs.Reading.{amountOf, aged, sizeOf}
 use Rattle.reading.proofs.Whole.{took-says}
 use Rattle.marking.specs.Marks.{heldBack}
@@ -17,7 +18,7 @@ use Rattle.places.specs.Places.{textOf}
 use Rattle.lines.specs.Shown.{shownWords, shownText}
 use Rattle.lines.specs.Lines.{ageLine, stopLine, recordLine}
 use Rattle.lines.proofs.Escapes.{shown-long}
-use Rattle.lines.proofs.Ranges.{Bytes, aged-long}
+use Rattle.text.proofs.Ranges.{aged-long}
 
 -- the line with an age of d + 1 digits at the most
 pub age-long : (d a : ℕ) → length (decimal a) ≤ suc d → length (ageLine a) ≤ d + 6

@@ -14,6 +14,7 @@ use Rattle.answers.specs.Numbers.{numberOf}
 use Rattle.answers.specs.Tells.{success, refusal}
 use Rattle.buffer.specs.Written.{Outcome, wrote}
 use Rattle.buffer.proofs.Digits.{decimal-long}
+use Rattle.record.specs.Table.{Bytes}
 use Rattle.record.specs.Ages.{isAge}
 use Rattle.record.proofs.Twelve.{age-bounds}
 use Rattle.reading.specs.Reading.{amountOf, sizeOf, taken, ifWhole}
@@ -21,7 +22,6 @@ use Rattle.reading.proofs.Whole.{whole-short, whole-cut, whole-took, took-says,
 use Rattle.runs.specs.Runs.{offsetsIn, stopIn, reasonAt}
 use Rattle.lines.specs.declared.Cursor.{Cursor}
 use Rattle.lines.specs.Lines.{ageLine, stopLine, recordLine, lineAt, after, lineOf, callsOf, cursorOf, recordLines, listingOf}
-use Rattle.lines.proofs.Ranges.{Bytes}
 use Rattle.lines.proofs.Bounds.{age-long, stop-long, whole-long}
 use Rattle.lines.proofs.Exactly.{line-given}
 

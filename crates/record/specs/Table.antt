@@ -1,9 +1,13 @@
 -- 01, "The record": the field table, and what a list of bytes says. Assumes nothing.
-use Prim.Native.Nat.{ℕ, _+_, _*_, _-_}
+use Prim.Native.Nat.{ℕ, _+_, _*_, _-_, _<_}
 use mathlib.Core.List.{List, [], _∷_}
 use mathlib.Core.Bool.{Bool, true, false, _&&_}
 use lib.ListN.{getD, take, drop}
 use lib.Dec.{eqb}
+
+-- each number is a byte
+abbrev pub Bytes : List ℕ → Type 0
+Bytes s = (i : ℕ) → getD s i 0 < 256
 
 -- where each of the fifteen fields starts, size first
 abbrev pub starts : List ℕ

@@ -2,6 +2,7 @@ pub mod Answers
 pub mod Cost
 pub mod Examples
 pub mod Long
+pub mod Ranges
 pub mod OneOutcome
 pub mod Same
 pub mod Exactly

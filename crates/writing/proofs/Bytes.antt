@@ -7,14 +7,10 @@ use native.Mathlib.Omega.{arith}
 use native.Mathlib.Decide.{decLt}
 use lib.ListN.{length, getD, drop, replicate, length-take, List·getD-eq-default}
 use lib.Seq.{getD-take, getD-drop}
-use Rattle.record.specs.Table.{part, le, allZero, bit}
+use Rattle.record.specs.Table.{Bytes, part, le, allZero, bit}
 use Rattle.writing.specs.Writing.{bytes4}
 use Rattle.writing.proofs.Arms.{elements}
 use Rattle.writing.proofs.Zeros.{zeros-at}
-
--- each element is a byte
-abbrev pub Bytes : List ℕ → Type 0
-Bytes l = (i : ℕ) → getD l i 0 < 256
 
 zero-byte : (x : ℕ) → x ≡ 0 → x < 256
 zero-byte x e = omega arith

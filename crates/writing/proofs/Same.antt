@@ -8,13 +8,13 @@ use lib.Dec.{lit<}
 use lib.ListN.{length, getD, take, drop, replicate, length-replicate}
 use lib.Seq.{ext-getD, getD-take, length-take-le, take-at}
 use Rattle.buffer.specs.Written.{Outcome, wrote}
-use Rattle.record.specs.Table.{part, le, allZero, startOf, endOf, widthOf, bit}
+use Rattle.record.specs.Table.{Bytes, part, le, allZero, startOf, endOf, widthOf, bit}
 use Rattle.reading.specs.Reading.{reads, fieldBy, recordBy, plain, sizeOf, taken}
 use Rattle.reading.proofs.Limits.{start-end}
 use Rattle.writing.specs.Writing.{bytes4, bytesOf, span, inField, decoded, keeps, tidy, shown, writeOf, Shaped, Kept}
 use Rattle.writing.proofs.Below.{none, _then_, all-at, and-both, Place, some-place, each-here}
 use Rattle.writing.proofs.Zeros.{all-zeros, part-at}
-use Rattle.writing.proofs.Bytes.{Bytes, part-bytes, zeros-bytes, word-back, yes-back, bit-most}
+use Rattle.writing.proofs.Bytes.{part-bytes, zeros-bytes, word-back, yes-back, bit-most}
 use Rattle.writing.proofs.Order.{in-says, end-within}
 use Rattle.writing.proofs.Places.{shown-in, shown-out, shown-long}
 use Rattle.writing.proofs.Answers.{wrote-is}

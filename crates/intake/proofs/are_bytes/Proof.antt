@@ -34,7 +34,7 @@ use denote.Triple.Entry.{onEntry}
 use denote.Triple.Spec.{Meets, tripleOf}
 use denote.Triple.Table.{entered}
 use denote.Triple.Walked.{says, Stays, stay-none-slice, walkOf, Walks, ends-at, walked, goes-none-slice, walk-meets}
-use Rattle.order.specs.Packed.{AllBytes}
+use Rattle.record.specs.Table.{Bytes}
 use Rattle.intake.proofs.Bytes.{one-more, placed}
 use Rattle.intake.proofs.are_bytes.Key.{name as #intake·are-bytes}
 use Rattle.intake.proofs.are_bytes as are-bytes
@@ -67,7 +67,7 @@ module _ {M : Type 1} (𝓤 : URA M) (H : Heap 𝓤) (A : Atoms 𝓤) (W : Given
   abbrev Post : Val → SProp 𝓤
   Post = walkOf 𝓤 H A are-bytes.ended stayed (are-bytes.clauses 𝓤 H A mem run) .post bound
 
-  exits : AllBytes ys → ent 𝓤 (⋆ 𝓤 H A (‵ (flft κ q) ∷ ‵ (ShrSlice (named 0) κ u8 .own x (v ∷ [])) ∷ [])) (Post vunit)
+  exits : Bytes ys → ent 𝓤 (⋆ 𝓤 H A (‵ (flft κ q) ∷ ‵ (ShrSlice (named 0) κ u8 .own x (v ∷ [])) ∷ [])) (Post vunit)
   exits all =
       qed W (‵ (flft κ q) ∷ ‵ (ShrSlice (named 0) κ u8 .own x (v ∷ [])) ∷ []) ∵
       suffices ! _ (ends-at 𝓤 H A are-bytes.ended stayed (are-bytes.clauses 𝓤 H A mem run) W bound vunit tt (tt, tt) (tt, tt)) $ says ! all $

@@ -1,4 +1,4 @@
--- What a reader gives of some bytes is in the ranges of its types, so that no text of it is longer than 344. Assumes nothing.
+-- What a reading gives of some bytes is in the ranges of its types, so that no text of it is longer than 344. Assumes nothing.
 use Prim.Native.Nat.{ℕ, zero, suc, _^_, _≤_, _<_}
 use mathlib.Core.Path.{_≡_, refl}
 use mathlib.Core.Bool.{Bool, true, false, cond}
@@ -7,14 +7,10 @@ use native.Mathlib.Omega.{arith}
 use native.Mathlib.Decide.{decLt}
 use lib.ListN.{length, getD, drop, replicate, length-take, length-replicate, drop-of-length-le}
 use lib.Seq.{drop-cons}
-use Rattle.record.specs.Table.{part, le, startOf, widthOf}
-use Rattle.reading.specs.Reading.{fieldBy, recordBy, aged}
+use Rattle.record.specs.Table.{Bytes, part, le, startOf, widthOf}
+use Rattle.reading.specs.Reading.{fieldBy, recordBy, plain, aged}
 use Rattle.places.specs.Places.{textOf}
 use Rattle.text.proofs.Long.{Ranged, ranged-long}
-
--- each element is a byte
-abbrev pub Bytes : List ℕ → Type 0
-Bytes s = (i : ℕ) → getD s i 0 < 256
 
 -- the number of n bytes
 pub part-below : (n a : ℕ) (s : List ℕ) → Bytes s → le (part s a n) < 256 ^ n
@@ -59,7 +55,11 @@ module _ (p : ℕ → Bool) (s : List ℕ) (h : Bytes s) where
     sized = record { word = field-below p s 2 h; script = field-wide p s 9; variant = field-wide p s 10; numbering = field-wide p s 13 };
   }
 
--- no text of what a reader gives is longer
+-- no text of what the plain reading gives is longer, nor of what a reader of an age gives
+pub plain-long : (s : List ℕ) → Bytes s → length (textOf (plain s)) ≤ 344
+unfolding plain
+plain-long s h = ranged-long _ (ranged _ s h)
+
 pub aged-long : (a : ℕ) (s : List ℕ) → Bytes s → length (textOf (aged a s)) ≤ 344
 unfolding aged
 aged-long a s h = ranged-long _ (ranged _ s h)
