@@ -5,10 +5,8 @@ use mathlib.Core.Bool.{true, false, cond}
 use mathlib.Core.List.{List, []}
 use native.Mathlib.Omega.{arith}
 use native.Mathlib.Numerals.{add-one}
-use native.Mathlib.Decide.{decLe}
 use lib.Dec.{eqb}
-use lib.ListN.{length, take, drop, length-drop, drop-of-length-le}
-use lib.Seq.{take-all, take-nil, drop-length}
+use lib.ListN.{length, length-drop}
 use borrow.Author.Tests.{lt-ltb, le-ltb, le-leb}
 use Rattle.answers.specs.declared.Refusal.{Refusal}
 use Rattle.answers.specs.declared.Taken.{Taken}
@@ -21,24 +19,13 @@ use Rattle.record.specs.Ages.{isAge}
 use Rattle.reading.specs.Reading.{amountOf}
 use Rattle.reading.proofs.Whole.{age-known, age-unknown, took-says, took-whole, refused-whole}
 use Rattle.runs.specs.Runs.{reasonAt}
+use Rattle.runs.proofs.Rest.{rest, rest-from}
 use Rattle.lines.specs.declared.Cursor.{Cursor}
 use Rattle.lines.specs.declared.Lined.{Lined}
 use Rattle.lines.specs.Lines.{LineOutcome, ageLine, stopLine, recordLine, lineAt, after, linedOutcome, lineRefused, lineWritten, lineOf}
 use Rattle.lines.proofs.Answers.{went}
 
--- the bytes from a place on, which may be past their end
-abbrev pub rest : List ℕ → ℕ → List ℕ
-rest s from = take (length s - from) (drop from s)
-
-rest-is : (s : List ℕ) (p from : ℕ) → from ≡ min p (length s) → rest s from ≡ drop p s
-rest-is s p from e =
-    elim (decLe p (length s)) [
-      | yes h ↦ let f : from ≡ p = omega arith in rw f (take-all (length s - p) (drop p s) (omega (arith, length-drop p s)))
-      | no h ↦ let f : from ≡ length s = omega arith in
-          rw (f, drop-length s, drop-of-length-le s {i = p} (omega arith)) (take-nil (length s - length s))
-    ]
-
--- what `amount` answers of them
+-- what `amount` answers of the bytes from a place on, which may be past their end
 module _ (s : List ℕ) (p from : ℕ) (start : from ≡ min p (length s)) (amount : Taken) (told : takenTells amount ≡ amountOf (rest s from)) where
   pub took : (t : ℕ) → amount ≡ Taken.Took t → success t ≡ amountOf (rest s from)
   took t e = rw e at told
@@ -47,7 +34,7 @@ module _ (s : List ℕ) (p from : ℕ) (start : from ≡ min p (length s)) (amou
   pub within : (t : ℕ) → amount ≡ Taken.Took t → length s ≤ 65536 → (p + length (rest s from) ≤ 65536) × (p + t ≤ 65536)
   within t e h =
       let w = took-says (rest s from) t (took t e) in
-      let n : length (rest s from) ≡ length s - p = ap length (rest-is s p from start) ∙ length-drop p s in
+      let n : length (rest s from) ≡ length s - p = ap length (rest-from s p from start) ∙ length-drop p s in
       let a = w .0 in
       let b = w .1 in (omega arith, omega arith)
 
@@ -78,7 +65,7 @@ module _ (a i p : ℕ) (s old : List ℕ) where
     unfolding lineAt after
     record-went t e o g =
         let w = took s p from start amount told t e in
-        rw (le-ltb p i h, ← rest-is s p from start, took-whole (rest s from) _ _ t w, took-whole (rest s from) _ _ t w, ← took-says (rest s from) t w .0, ← add-one i)
+        rw (le-ltb p i h, ← rest-from s p from start, took-whole (rest s from) _ _ t w, took-whole (rest s from) _ _ t w, ← took-says (rest s from) t w .0, ← add-one i)
         (went _ old here _ answer new lined o g)
 
     -- none does
@@ -90,7 +77,7 @@ module _ (a i p : ℕ) (s old : List ℕ) where
     stop-went why number e n o g =
         let x = rest s from in
         let w : refusal (numberOf why) ≡ amountOf x = rw e at told in
-        rw (le-ltb p i h, ← rest-is s p from start, refused-whole x _ _ why w, refused-whole x _ _ why w, refused-whole x _ _ why w, ← n)
+        rw (le-ltb p i h, ← rest-from s p from start, refused-whole x _ _ why w, refused-whole x _ _ why w, refused-whole x _ _ why w, ← n)
         (went _ old here _ answer new lined o g)
 
 -- the whole call

@@ -4,22 +4,22 @@ use mathlib.Core.Path.{_≡_, refl, sym, _∙_}
 use mathlib.Core.Bool.{Bool, true, false, cond}
 use mathlib.Core.List.{List, [], _∷_, _++_}
 use native.Mathlib.Omega.{arith}
-use native.Mathlib.Decide.{decLt}
 use lib.Dec.{eqb, lit≤}
 use lib.ListN.{length, drop, length-drop}
 use lib.Seq.{getD-drop}
 use borrow.Author.Tests.{le-ltb, lt-ltb}
 use Rattle.answers.specs.declared.Refusal.{Refusal}
 use Rattle.answers.specs.Numbers.{numberOf}
-use Rattle.answers.specs.Tells.{success, refusal}
+use Rattle.answers.specs.Tells.{refusal}
 use Rattle.buffer.specs.Written.{Outcome, wrote}
 use Rattle.buffer.proofs.Digits.{decimal-long}
 use Rattle.record.specs.Table.{Bytes}
 use Rattle.record.specs.Ages.{isAge}
 use Rattle.record.proofs.Twelve.{age-bounds}
-use Rattle.reading.specs.Reading.{amountOf, sizeOf, taken, ifWhole}
-use Rattle.reading.proofs.Whole.{whole-short, whole-cut, whole-took, took-says, took-whole, refused-whole}
+use Rattle.reading.specs.Reading.{amountOf, taken, ifWhole}
+use Rattle.reading.proofs.Whole.{whole-short, took-says, took-whole, refused-whole}
 use Rattle.runs.specs.Runs.{offsetsIn, stopIn, reasonAt}
+use Rattle.runs.proofs.Stops.{front, whole, not-whole}
 use Rattle.lines.specs.declared.Cursor.{Cursor}
 use Rattle.lines.specs.Lines.{ageLine, stopLine, recordLine, lineAt, after, lineOf, callsOf, cursorOf, recordLines, listingOf}
 use Rattle.lines.proofs.Bounds.{age-long, stop-long, whole-long}
@@ -40,21 +40,6 @@ eachWrote (w ∷ ws) (old ∷ olds) = wrote w old ∷ eachWrote ws olds
 pub record Gives (a : ℕ) (s : List ℕ) (c : Cursor) (ws : List (List ℕ)) (d : Cursor) : Type 0 where
   pub calls : (olds : List (List ℕ)) → Roomy olds → length olds ≡ length ws → callsOf a s c olds ≡ eachWrote ws olds
   pub leads : (olds : List (List ℕ)) → Roomy olds → length olds ≡ length ws → cursorOf a s c olds ≡ d
-
--- a record stands whole at the front of s, or it is refused
-data Stands (s : List ℕ) : Type 0 where
-  whole : (t : ℕ) → success t ≡ amountOf s → Stands s
-  refuses : (why : Refusal) → refusal (numberOf why) ≡ amountOf s → Stands s
-
-stands : (s : List ℕ) → Stands s
-stands s =
-    elim (decLt (length s) 16) [
-      | yes h ↦ refuses Refusal.FewerThan16 (sym (whole-short s _ _ h))
-      | no h ↦ elim (decLt (length s) (sizeOf s)) [
-        | yes g ↦ refuses Refusal.FewerThanSize (sym (whole-cut s _ _ (omega arith) g))
-        | no g ↦ whole (taken s) (sym (whole-took s _ _ (omega arith)))
-      ]
-    ]
 
 -- 7 is the last of 01's numbers
 number-most : (why : Refusal) → numberOf why ≤ 7
@@ -133,8 +118,8 @@ module _ (a : ℕ) (s : List ℕ) (known : isAge a ≡ true) (small : length s �
         stop-last i p before inside Refusal.FewerThan16 (sym (whole-short (drop p s) _ _ (omega (arith, length-drop p s))))
     run (suc n) i p before inside l =
         let x = drop p s in
-        elim (stands x) [
-          | refuses why e ↦ rw (refused-whole x _ _ why e, refused-whole x _ _ why e) (stop-last i p before inside why e)
+        elim (front x) [
+          | not-whole why e ↦ rw (refused-whole x _ _ why e, refused-whole x _ _ why e) (stop-last i p before inside why e)
           | whole t e ↦
               let w = took-says x t e .1 in
               let k = length-drop p s in
