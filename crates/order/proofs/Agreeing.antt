@@ -8,27 +8,7 @@ use lib.ListN.{length}
 use Rattle.record.specs.Table.{bit}
 use Rattle.order.specs.Order.{key, orderOf, equalOf}
 use Rattle.record.specs.declared.ResTableConfig.{ResTableConfig}
-
--- the record with another size
-abbrev pub withSize : ResTableConfig → ℕ → ResTableConfig
-withSize r n =
-    record {
-      size = n;
-      imsi = r .imsi;
-      locale = r .locale;
-      «screen_type» = r .«screen_type»;
-      «generic_purpose_field» = r .«generic_purpose_field»;
-      «screen_size» = r .«screen_size»;
-      version = r .version;
-      «screen_config» = r .«screen_config»;
-      «screen_size_dp» = r .«screen_size_dp»;
-      «locale_script» = r .«locale_script»;
-      «locale_variant» = r .«locale_variant»;
-      «screen_config_2» = r .«screen_config_2»;
-      «locale_script_was_computed» = r .«locale_script_was_computed»;
-      «locale_numbering_system» = r .«locale_numbering_system»;
-      «end_padding» = r .«end_padding»;
-    }
+use Rattle.record.specs.Blank.{withSize}
 
 -- size never counts in the order
 pub size-order : (a b : ResTableConfig) (m n : ℕ) → orderOf (withSize a m) (withSize b n) ≡ orderOf a b

@@ -1,14 +1,29 @@
-// What the benchmark calls of the port: parsing, text and order from bytes, each answering one number.
+// What the benchmark and the comparison at scale call of the port beyond the C face, each from bytes and answering one number.
+use answers::Taken;
+use answers::Told;
+use answers::Written;
+use lines::Cursor;
+use lines::first;
+use lines::line;
 use order::cmp;
 use order::eq;
+use reading::amount;
 use reading::parse;
+use record::Age;
+use record::ResTableConfig;
 use record::blank;
+use runs::walk;
 use text::plain_text;
+use writing::write;
 ghost use mathlib.Core.Path.{_≡_};
+ghost use Rattle.buffer.specs.Written.{outcome};
+ghost use Rattle.lines.specs.Lines.{lineOf};
 ghost use Rattle.reading.specs.Reading.{parseOf};
-ghost use Rattle.record.specs.Blank.{blankRecord};
+ghost use Rattle.record.specs.Blank.{blankRecord, withSize};
 ghost use Rattle.order.specs.Order.{equalOf, orderOf, orderingTells};
+ghost use Rattle.runs.specs.Runs.{runOf};
 ghost use Rattle.text.specs.Text.{plainText};
+ghost use Rattle.probe.specs.Probe.{Comes, cursorPacked, endPacked, packedOf, writeSized};
 
 // Whether the record that parsing bytes gives equals the one that holds nothing: so every field of it is looked at.
 #[no_mangle]
@@ -42,4 +57,120 @@ pub extern "C" fn probe_order(a: &[u8], b: &[u8]) -> u32
     let second = parsed_b.record;
     let order = cmp(first, second);
     order.number()
+}
+
+// What a call tells as one number: its number times 2^32, and the lower 32 bits of the amount.
+fn packed(told: Told) -> u64
+    ensures { λ r. ⌜ r ≡ packedOf told ⌝ }
+{
+    told.number as u64 * 4294967296 + told.amount as u64 % 4294967296
+}
+
+// A cursor as one number: a record's place under its index, or one of the two greatest.
+fn cursor_packed(cursor: Cursor) -> u64
+    ensures { λ r. ⌜ r ≡ cursorPacked cursor ⌝ }
+{
+    match cursor {
+        Cursor::Start => 18446744073709551614,
+        Cursor::Record { index, place } => packed(Told {
+            number: (index % 4294967296) as u32,
+            amount: place,
+        }),
+        Cursor::End => 18446744073709551615,
+    }
+}
+
+// Writes the first line of a listing of bytes at an age.
+#[no_mangle]
+pub extern "C" fn probe_first_line(bytes: &[u8], age: u32, out: &mut [u8]) -> u64
+    ensures { λ r. ⌜ Comes r (now (out .exit)) (lineOf age (now (bytes .entry)) Cursor.Start (now (out .entry)) .does) ⌝ }
+{
+    let lined = line(bytes, Age(age), first(), out);
+    let answer = lined.answer;
+    packed(answer.told())
+}
+
+// Writes the line of the record of an index at a place in a listing of bytes at an age, or where none stands there the last one.
+#[no_mangle]
+pub extern "C" fn probe_line(
+    bytes: &[u8],
+    age: u32,
+    index: usize,
+    place: usize,
+    out: &mut [u8],
+) -> u64
+    ensures { λ r. ⌜ Comes r (now (out .exit)) (lineOf age (now (bytes .entry)) (Cursor.Record index place) (now (out .entry)) .does) ⌝ }
+{
+    let lined = line(bytes, Age(age), Cursor::Record { index, place }, out);
+    let answer = lined.answer;
+    packed(answer.told())
+}
+
+// Writes that line too, and answers where the listing goes on.
+#[no_mangle]
+pub extern "C" fn probe_next(
+    bytes: &[u8],
+    age: u32,
+    index: usize,
+    place: usize,
+    out: &mut [u8],
+) -> u64
+    ensures { λ r. ⌜ r ≡ cursorPacked (lineOf age (now (bytes .entry)) (Cursor.Record index place) (now (out .entry)) .goes) ⌝ }
+    ensures { λ _. ⌜ now (out .exit) ≡ lineOf age (now (bytes .entry)) (Cursor.Record index place) (now (out .entry)) .does .leaves ⌝ }
+{
+    let lined = line(bytes, Age(age), Cursor::Record { index, place }, out);
+    let cursor = lined.cursor;
+    cursor_packed(cursor)
+}
+
+// Where the run of bytes that begins at a place stops, under the number with which it does.
+#[no_mangle]
+pub extern "C" fn probe_walk(bytes: &[u8], place: usize) -> u64
+    ensures { λ r. ⌜ r ≡ endPacked (runOf (now (bytes .entry)) place) ⌝ }
+{
+    let end = walk(bytes, place);
+    packed(Told {
+        number: end.number,
+        amount: end.stop,
+    })
+}
+
+// How many records the run of bytes that begins at a place has.
+#[no_mangle]
+pub extern "C" fn probe_records(bytes: &[u8], place: usize) -> usize
+    ensures { λ r. ⌜ r ≡ runOf (now (bytes .entry)) place .records ⌝ }
+{
+    let end = walk(bytes, place);
+    end.records
+}
+
+// The record with another size.
+fn sized(mut r: ResTableConfig, size: u32) -> ResTableConfig
+    ensures { λ s. ⌜ s ≡ withSize r size ⌝ }
+{
+    r.size = size;
+    r
+}
+
+// Writes the bytes of the record at the front of bytes, with another size.
+fn write_sized(bytes: &[u8], size: u32, out: &mut [u8]) -> Written
+    ensures { λ r. ⌜ outcome r (now (out .exit)) ≡ writeSized (now (bytes .entry)) size (now (out .entry)) ⌝ }
+{
+    match amount(bytes) {
+        Taken::Refused(why) => Written::Refused(why),
+        Taken::Took(_) => {
+            let parsed = parse(bytes);
+            let record = parsed.record;
+            write(sized(record, size), out)
+        }
+    }
+}
+
+// Writes those bytes.
+#[no_mangle]
+pub extern "C" fn probe_write(bytes: &[u8], size: u32, out: &mut [u8]) -> u64
+    ensures { λ r. ⌜ Comes r (now (out .exit)) (writeSized (now (bytes .entry)) size (now (out .entry))) ⌝ }
+{
+    let answer = write_sized(bytes, size, out);
+    packed(answer.told())
 }

@@ -1,0 +1,34 @@
+-- What the probes answer: what a call tells, a cursor and a run's end, each as one number, and the writer at another size. Assumes nothing.
+use Prim.Native.Nat.{ℕ, _+_, _*_, _%_}
+use mathlib.Core.Path.{_≡_}
+use mathlib.Core.List.{List}
+use Rattle.answers.specs.declared.Told.{Told}
+use Rattle.buffer.specs.Written.{Outcome, refused}
+use Rattle.record.specs.Blank.{withSize}
+use Rattle.reading.specs.Reading.{ifWhole, plain}
+use Rattle.writing.specs.Writing.{writeOf}
+use Rattle.runs.specs.declared.RunEnd.{RunEnd}
+use Rattle.lines.specs.declared.Cursor.{Cursor}
+
+-- what a call tells, as one number: its number times 2^32, and the lower 32 bits of the amount
+abbrev pub packedOf : Told → ℕ
+packedOf t = t .number * 4294967296 + t .amount % 4294967296
+
+-- an answer and a lent buffer are what an outcome tells, packed, and leaves
+abbrev pub Comes : ℕ → List ℕ → Outcome → Type 0
+Comes r buffer o = (r ≡ packedOf (o .tells)) × (buffer ≡ o .leaves)
+
+-- where a run stops, packed under its number
+abbrev pub endPacked : RunEnd → ℕ
+endPacked e = packedOf (record { number = e .number; amount = e .stop })
+
+-- where a listing goes on: a record's place, packed under its index; the greatest number behind the last line, and one less at
+-- the start
+abbrev pub cursorPacked : Cursor → ℕ
+cursorPacked Cursor.Start = 18446744073709551614
+cursorPacked (Cursor.Record i p) = packedOf (record { number = i % 4294967296; amount = p })
+cursorPacked Cursor.End = 18446744073709551615
+
+-- writing the record at the front of s with another size: 1, 2, then the writer's 6 and 5
+abbrev pub writeSized : List ℕ → ℕ → List ℕ → Outcome
+writeSized s n old = ifWhole s (λ why. refused why old) (writeOf (withSize (plain s) n) old)
