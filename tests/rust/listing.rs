@@ -5,27 +5,54 @@ use crate::records::taken;
 use crate::spellings::{LONGEST, PLACES, SPELLED};
 
 /// The most bytes that a listing takes.
-const MOST: usize = 65_536;
+pub const MOST: usize = 65_536;
 
 /// The listing of some bytes at an age.
 pub fn listing(bytes: &[u8], age: usize) -> String {
     if bytes.len() > MOST {
-        return format!("age {age}\nstop 0 7\n");
+        return age_line(age) + "stop 0 7\n";
     }
-    let (mut lines, mut offset, mut index) = (format!("age {age}\n"), 0, 0);
-    while let Some((record, amount)) = taken(&bytes[offset..]) {
-        let whole = &bytes[offset..offset + amount];
-        let shown = if whole.iter().skip(age).any(|byte| *byte != 0) { "%!".into() } else { escaped(&record.as_string()) };
-        lines += &format!("{index} {offset} {} {} {shown}\n", record.size, marks(whole, record.size as usize, age));
+    let (mut lines, mut offset, mut index) = (age_line(age), 0, 0);
+    while let Some((line, amount)) = record_line(bytes, age, index, offset) {
+        lines += &line;
         offset += amount;
         index += 1;
     }
-    let number = match bytes.len() - offset {
-        0 => 0,
-        1..=15 => 1,
+    lines + &stop_line(bytes, offset)
+}
+
+/// The first line.
+pub fn age_line(age: usize) -> String {
+    format!("age {age}\n")
+}
+
+/// The line of the record that stands whole at an offset, and how many bytes the record takes.
+pub fn record_line(bytes: &[u8], age: usize, index: usize, offset: usize) -> Option<(String, usize)> {
+    let rest = bytes.get(offset..)?;
+    let (record, amount) = taken(rest)?;
+    let whole = &rest[..amount];
+    let shown = if held_back(whole, age) { "%!".into() } else { escaped(&record.as_string()) };
+    let marks = marks(whole, record.size as usize, age);
+    Some((format!("{index} {offset} {} {marks} {shown}\n", record.size), amount))
+}
+
+/// The last line, of a run that stops at an offset.
+pub fn stop_line(bytes: &[u8], offset: usize) -> String {
+    format!("stop {offset} {}\n", stop_number(bytes, offset))
+}
+
+/// The number with which a run stops at an offset where no record stands whole: 0 at the exact end, and 1 past it.
+pub fn stop_number(bytes: &[u8], offset: usize) -> u32 {
+    match bytes.len().checked_sub(offset) {
+        Some(0) => 0,
+        None | Some(1..=15) => 1,
         _ => 2,
-    };
-    lines + &format!("stop {offset} {number}\n")
+    }
+}
+
+/// Whether one of a whole record's bytes holds it back at an age.
+pub fn held_back(whole: &[u8], age: usize) -> bool {
+    whole.iter().skip(age).any(|byte| *byte != 0)
 }
 
 /// The marks of a whole record's fourteen fields after size.

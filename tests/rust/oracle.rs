@@ -4,6 +4,7 @@ mod listing;
 mod payloads;
 mod questions;
 mod records;
+mod scale;
 mod shim;
 mod spellings;
 mod subject;
@@ -20,7 +21,10 @@ const USAGE: &str = "usage: oracle programs
        oracle answer PROGRAM
        oracle compare PROGRAM QUESTIONS EXPECTED GOT
        oracle runs FOLDER COUNT SEED
-       oracle listing";
+       oracle listing
+       oracle ask made SEED COUNT
+       oracle ask mutated SEED SECONDS
+       oracle check made|mutated SEED";
 
 /// Does what the first word says; a failure is one message and status 1.
 fn main() -> ExitCode {
@@ -34,6 +38,8 @@ fn main() -> ExitCode {
         ["compare", program, questions, expected, got] => compare(program, questions, expected, got),
         ["listing"] => input().and_then(|bytes| write(listing::listing(&bytes, 64).as_bytes())),
         ["runs", folder, count, seed] => runs(folder, count, seed),
+        ["ask", name, seed, limit] => scale::ask(name, seed, limit),
+        ["check", name, seed] => scale::check(name, seed),
         _ => Err(USAGE.into()),
     };
     match done {

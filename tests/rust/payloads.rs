@@ -126,7 +126,7 @@ fn but_for(random: &mut Random, bytes: &[u8], part: Range<usize>) -> Vec<u8> {
 }
 
 /// A record with one byte changed, cut, or with bytes behind it.
-fn broken(random: &mut Random) -> Vec<u8> {
+pub fn broken(random: &mut Random) -> Vec<u8> {
     let mut bytes = usual(random);
     match random.below(3) {
         0 => {
@@ -143,20 +143,20 @@ fn broken(random: &mut Random) -> Vec<u8> {
 }
 
 /// Every size to 80 at every length to 96.
-fn every_size(random: &mut Random) -> Vec<Vec<u8>> {
+pub fn every_size(random: &mut Random) -> Vec<Vec<u8>> {
     let places = (0..=80).flat_map(|size| (0..=96).map(move |length| (size, length)));
     places.map(|(size, length)| declared(random, size, length)).collect()
 }
 
 /// Sizes at each field's end and one to either side, with one byte too few, none, one and seven too many.
-fn around_ends(random: &mut Random) -> Vec<Vec<u8>> {
+pub fn around_ends(random: &mut Random) -> Vec<Vec<u8>> {
     let sizes = ENDS.iter().flat_map(|end| end - 1..=end + 1);
     let places = sizes.flat_map(|size| [size - 1, size, size + 1, size + 7].map(|length| (size, length)));
     places.flat_map(|place| [place; 16]).map(|(size, length)| declared(random, size, length)).collect()
 }
 
 /// Sizes past 64 and to 65,536, their tails zero or random, with one byte too few, none, one and seven too many.
-fn tails(random: &mut Random) -> Vec<Vec<u8>> {
+pub fn tails(random: &mut Random) -> Vec<Vec<u8>> {
     let mut made = Vec::new();
     for most in [160, 1024, 8192, 65536] {
         for row in 0..100 {
@@ -173,7 +173,7 @@ fn tails(random: &mut Random) -> Vec<Vec<u8>> {
 }
 
 /// Sizes that are far more than the bytes there are, among them those of which the low half is small.
-fn not_there(random: &mut Random) -> Vec<Vec<u8>> {
+pub fn not_there(random: &mut Random) -> Vec<Vec<u8>> {
     let sizes = [
         97,
         256,
@@ -194,12 +194,12 @@ fn not_there(random: &mut Random) -> Vec<Vec<u8>> {
 }
 
 /// Whole records of the sizes that files have.
-fn whole(random: &mut Random) -> Vec<Vec<u8>> {
+pub fn whole(random: &mut Random) -> Vec<Vec<u8>> {
     many(30_000, random, usual)
 }
 
 /// Damaged copies of records.
-fn damaged(random: &mut Random) -> Vec<Vec<u8>> {
+pub fn damaged(random: &mut Random) -> Vec<Vec<u8>> {
     many(30_000, random, broken)
 }
 

@@ -77,7 +77,7 @@ fn parsed(record: &ResTableConfig, amount: usize) -> Vec<u8> {
 }
 
 /// The fifteen fields in their order, 64 bytes: words little-endian, arrays as they are, yes as 1.
-fn fields(r: &ResTableConfig) -> Vec<u8> {
+pub fn fields(r: &ResTableConfig) -> Vec<u8> {
     let mut bytes = Vec::new();
     let first = [r.size, r.imsi, r.locale, r.screen_type, r.generic_purpose_field, r.screen_size, r.version];
     for word in first.into_iter().chain([r.screen_config, r.screen_size_dp]) {
@@ -126,7 +126,7 @@ fn compared(a: &ResTableConfig, b: &ResTableConfig) -> Vec<u8> {
 }
 
 /// What 01's writer writes for a record: T bytes, zero but for the fields that are read at the record's own size.
-fn written(record: &ResTableConfig) -> Vec<u8> {
+pub fn written(record: &ResTableConfig) -> Vec<u8> {
     let (fields, length) = (fields(record), 16.max(record.size as usize));
     let mut bytes = vec![0; length];
     let mut start = 0;

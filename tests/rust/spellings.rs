@@ -145,32 +145,35 @@ fn of_every_size(_: &mut Random) -> Vec<Vec<u8>> {
 
 /// Records as files have them.
 fn looking_real(random: &mut Random) -> Vec<Vec<u8>> {
-    many(20_000, random, |random| {
-        let mut bytes = empty();
-        if random.below(8) == 0 {
-            bytes[4..8].copy_from_slice(&one(random, &[[0x36, 1, 0, 0], [0x36, 1, 4, 0], [0xd0, 0, 0xff, 0xff]]));
+    many(20_000, random, real)
+}
+
+/// A record as files have them.
+pub fn real(random: &mut Random) -> Vec<u8> {
+    let mut bytes = empty();
+    if random.below(8) == 0 {
+        bytes[4..8].copy_from_slice(&one(random, &[[0x36, 1, 0, 0], [0x36, 1, 4, 0], [0xd0, 0, 0xff, 0xff]]));
+    }
+    name_locale(random, &mut bytes);
+    for (at, values) in NAMED {
+        if random.below(4) == 0 {
+            bytes[*at] = one(random, values);
         }
-        name_locale(random, &mut bytes);
-        for (at, values) in NAMED {
-            if random.below(4) == 0 {
-                bytes[*at] = one(random, values);
-            }
+    }
+    for at in [30, 32, 34] {
+        if random.below(4) == 0 {
+            let dp: u16 = one(random, &[320, 360, 411, 480, 600, 720, 820, 1280]);
+            bytes[at..at + 2].copy_from_slice(&dp.to_le_bytes());
         }
-        for at in [30, 32, 34] {
-            if random.below(4) == 0 {
-                let dp: u16 = one(random, &[320, 360, 411, 480, 600, 720, 820, 1280]);
-                bytes[at..at + 2].copy_from_slice(&dp.to_le_bytes());
-            }
-        }
-        let density: u16 = one(random, &[0, 0, 0, 120, 160, 213, 240, 280, 320, 420, 480, 560, 640, 0xfffe, 0xffff]);
-        bytes[14..16].copy_from_slice(&density.to_le_bytes());
-        bytes[24] = one(random, &[0, 0, 4, 13, 17, 21, 26, 33]);
-        bytes[26] = one(random, &[0, 0, 0, 0, 1]);
-        let size = one(random, &[28, 32, 36, 48, 52, 56, 64, 64]);
-        bytes.truncate(size);
-        declare(&mut bytes, size);
-        bytes
-    })
+    }
+    let density: u16 = one(random, &[0, 0, 0, 120, 160, 213, 240, 280, 320, 420, 480, 560, 640, 0xfffe, 0xffff]);
+    bytes[14..16].copy_from_slice(&density.to_le_bytes());
+    bytes[24] = one(random, &[0, 0, 4, 13, 17, 21, 26, 33]);
+    bytes[26] = one(random, &[0, 0, 0, 0, 1]);
+    let size = one(random, &[28, 32, 36, 48, 52, 56, 64, 64]);
+    bytes.truncate(size);
+    declare(&mut bytes, size);
+    bytes
 }
 
 /// Bytes of a record that have names, with numbers that are named there, and some that aren't.

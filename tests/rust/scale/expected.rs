@@ -1,0 +1,153 @@
+//! What each call is to answer: by 000 as far as it has an answer, and by 01's rules.
+use super::{Call, Question};
+use crate::listing::{age_line, held_back, marks, record_line, stop_line, stop_number, MOST};
+use crate::payloads::ENDS;
+use crate::records::{fields, taken, written};
+use crate::subject::ResTableConfig;
+
+/// What a call is to write, whatever it is lent, or the number of a refusal before 5; nothing where it doesn't write.
+pub type Wanted = Result<Vec<u8>, u32>;
+
+/// What a call comes to: 01's number, the answer, and what it writes to the front of the lent bytes.
+pub struct Outcome {
+    pub number: u32,
+    pub answer: u64,
+    pub wrote: Vec<u8>,
+}
+
+/// The most bytes that are ever lent.
+const LENT_MOST: usize = 1 << 17;
+
+/// The numbers of cursors that are at no record: at the start, and behind the last line.
+const END: u64 = u64::MAX;
+
+/// A number and an amount as one answer.
+fn packed(number: u32, amount: u64) -> u64 {
+    u64::from(number) << 32 | amount & 0xffff_ffff
+}
+
+/// A call that writes nothing.
+fn told(number: u32, amount: u64) -> Outcome {
+    Outcome { number, answer: packed(number, amount), wrote: vec![] }
+}
+
+/// The record at the front of some bytes and how many it takes, by 000; where 000 has an error, 01's 1 or 2.
+fn whole(bytes: &[u8]) -> Result<(ResTableConfig, usize), u32> {
+    taken(bytes).ok_or(if bytes.len() < 16 { 1 } else { 2 })
+}
+
+/// An age, or 3.
+fn age(number: u32) -> Result<usize, u32> {
+    ENDS[3..].iter().copied().find(|end| *end == number as usize).ok_or(3)
+}
+
+/// 7 where a listing has too much input.
+fn listed(bytes: &[u8]) -> Result<(), u32> {
+    if bytes.len() > MOST {
+        Err(7)
+    } else {
+        Ok(())
+    }
+}
+
+/// What a question's call is to write, with its refusals in 01's order.
+pub fn wanted(call: Call, number: u32, index: u64, place: u64, bytes: &[u8]) -> Wanted {
+    match call {
+        Call::Text => Ok(whole(bytes)?.0.as_string().into_bytes()),
+        Call::AgedText => {
+            let (age, (record, amount)) = (age(number)?, whole(bytes)?);
+            // what isn't held back is zero from the age on, so that the plain text is the reader's
+            if held_back(&bytes[..amount], age) {
+                return Err(4);
+            }
+            Ok(record.as_string().into_bytes())
+        }
+        Call::Marks => {
+            let (age, (record, amount)) = (age(number)?, whole(bytes)?);
+            Ok(marks(&bytes[..amount], record.size as usize, age).into_bytes())
+        }
+        Call::FirstLine => listed(bytes).and(age(number)).map(|age| age_line(age).into_bytes()),
+        Call::Line | Call::Next => {
+            listed(bytes).and(age(number)).map(|age| line(bytes, age, index, place).0.into_bytes())
+        }
+        Call::Write => rewritten(bytes, number),
+        Call::Take | Call::Order | Call::Walk | Call::Records => Ok(vec![]),
+    }
+}
+
+/// The line at a cursor, and the cursor behind it. A record's index is at most its place, so there is no line where it isn't.
+fn line(bytes: &[u8], age: usize, index: u64, place: u64) -> (String, u64) {
+    if place < index {
+        return (String::new(), END);
+    }
+    match record_line(bytes, age, index as usize, place as usize) {
+        Some((line, amount)) => (line, cursor(index + 1, place + amount as u64)),
+        None => (stop_line(bytes, place as usize), END),
+    }
+}
+
+/// A cursor at a record.
+fn cursor(index: u64, place: u64) -> u64 {
+    packed(index as u32, place)
+}
+
+/// What the writer makes of the record at the front of some bytes with another size: 6 where a field that isn't read at that
+/// size isn't zero; and what is longer than all that is lent is 5.
+fn rewritten(bytes: &[u8], size: u32) -> Wanted {
+    let (mut record, _) = whole(bytes)?;
+    record.size = size;
+    let fields = fields(&record);
+    let unread = |at: &usize| ENDS[*at] > size as usize;
+    if (4..15).filter(unread).any(|at| fields[ENDS[at - 1]..ENDS[at]].iter().any(|byte| *byte != 0)) {
+        return Err(6);
+    }
+    if size as usize > LENT_MOST {
+        return Err(5);
+    }
+    Ok(written(&record))
+}
+
+/// What a question's call comes to.
+pub fn outcome(question: &Question) -> Outcome {
+    let Question { call, index, place, first, .. } = question;
+    match call {
+        Call::Take => match whole(first) {
+            Ok((_, amount)) => told(0, amount as u64),
+            Err(number) => told(number, 0),
+        },
+        Call::Order => match whole(first).and_then(|(a, _)| Ok(a.cmp(&whole(&question.second)?.0))) {
+            Ok(order) => told(0, (order as i64 + 1) as u64),
+            Err(number) => told(number, 0),
+        },
+        Call::Walk | Call::Records => walked(*call, first, *place as usize),
+        Call::Next => {
+            let Outcome { number, wrote, .. } = room_for(question);
+            let behind = || line(first, question.number as usize, *index, *place).1;
+            Outcome { number, answer: if number == 0 { behind() } else { cursor(*index, *place) }, wrote }
+        }
+        _ => room_for(question),
+    }
+}
+
+/// What is wanted where there is room for it, else 5.
+fn room_for(question: &Question) -> Outcome {
+    match &question.wanted {
+        Ok(bytes) if bytes.len() <= question.lent => Outcome { wrote: bytes.clone(), ..told(0, bytes.len() as u64) },
+        Ok(_) => told(5, 0),
+        Err(number) => told(*number, 0),
+    }
+}
+
+/// Where a run stops and with which number, or how many records it has.
+fn walked(call: Call, bytes: &[u8], place: usize) -> Outcome {
+    let (mut stop, mut records) = (place, 0);
+    while let Some((_, amount)) = bytes.get(stop..).and_then(taken) {
+        stop += amount;
+        records += 1;
+    }
+    let number = stop_number(bytes, stop);
+    match call {
+        Call::Records => Outcome { number, answer: records, wrote: vec![] },
+        _ => told(number, stop as u64),
+    }
+}
