@@ -41,7 +41,7 @@ struct question {
     const uint8_t *first, *second;
 };
 
-/* The bytes that are nobody's: 0xf5 to 0xff in turn, of which no text and no line has one. Each question begins one further on. */
+/* The bytes that are nobody's: 0xf5 to 0xff in turn, and no text and no line has one. Each question begins one further on. */
 #define AREA (TURN + GUARD + MOST + GUARD)
 static uint8_t nobodys[AREA];
 

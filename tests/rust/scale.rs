@@ -167,11 +167,15 @@ fn source_of(name: &str, seed: &str) -> Result<Box<dyn Source>, String> {
 /// Writes questions: so many that are made, or for so many seconds those that are mutated.
 pub fn ask(name: &str, seed: &str, limit: &str) -> Result<(), String> {
     let (mut source, limit) = (source_of(name, seed)?, limit.parse().map_err(|_| format!("{limit} is no number"))?);
-    let (start, timed) = (Instant::now(), name == "mutated");
+    let start = Instant::now();
+    let ended = |count: u64| match name {
+        "mutated" => count % 1024 == 0 && start.elapsed() >= Duration::from_secs(limit),
+        _ => count == limit,
+    };
     let mut out = BufWriter::with_capacity(1 << 18, std::io::stdout().lock());
-    let mut count = 0u64;
+    let mut count = 0;
     let mut write = || loop {
-        if if timed { count % 1024 == 0 && start.elapsed() >= Duration::from_secs(limit) } else { count == limit } {
+        if ended(count) {
             out.write_all(&header(END, 0, count, 0, [0; 3]))?;
             return out.flush();
         }

@@ -18,7 +18,7 @@ pub struct Outcome {
 /// The most bytes that are ever lent.
 const LENT_MOST: usize = 1 << 17;
 
-/// The numbers of cursors that are at no record: at the start, and behind the last line.
+/// The number of the cursor behind the last line.
 const END: u64 = u64::MAX;
 
 /// A number and an amount as one answer.

@@ -94,12 +94,13 @@ fn repeat(random: &mut Random, bytes: &mut Vec<u8>, _: &[Vec<u8>]) {
     *bytes = bytes.iter().copied().cycle().take(length.min(2 * MOST)).collect();
 }
 
-/// The mutated that stand to be mutated further, and the last one with the calls that it hasn't gone to.
+/// What stands to be mutated; and the last that was, with what it came of, its last mutation, and how many calls it has gone to.
 pub struct Mutated {
     random: Random,
     kept: Vec<Vec<u8>>,
-    sort: usize,
     bytes: Vec<u8>,
+    came_of: Vec<u8>,
+    sort: usize,
     calls: usize,
 }
 
@@ -107,13 +108,14 @@ impl Mutated {
     pub fn new(seed: u64) -> Mutated {
         let mut random = Random(seed);
         let kept = (0..KEPT).map(|_| real(&mut random)).collect();
-        Mutated { random, kept, sort: 0, bytes: vec![], calls: CALLS.len() }
+        Mutated { random, kept, bytes: vec![], came_of: vec![], sort: 0, calls: CALLS.len() }
     }
 
-    /// Mutates one of those that are kept up to four times. What comes of it may be kept in its stead; one in eight is a new record.
+    /// Mutates one of those that are kept, one to four times. In its stead what comes of it may be kept, or a new record.
     fn mutate(&mut self) {
         let random = &mut self.random;
         let at = random.below(KEPT);
+        self.came_of.clone_from(&self.kept[at]);
         let mut bytes = self.kept[at].clone();
         for _ in 0..=random.below(4) {
             self.sort = random.below(MUTATIONS.len());
@@ -140,7 +142,11 @@ impl Source for Mutated {
         }
         let call = CALLS[self.calls].0;
         self.calls += 1;
-        let second = if call == Call::Order { self.kept[self.random.below(KEPT)].clone() } else { vec![] };
+        let second = match call {
+            Call::Order if self.random.below(2) == 0 => self.came_of.clone(),
+            Call::Order => self.kept[self.random.below(KEPT)].clone(),
+            _ => vec![],
+        };
         question(&mut self.random, self.sort, call, self.bytes.clone(), second)
     }
 }
