@@ -1,5 +1,5 @@
 -- 01, "Judged examples": the twelve as one table, over the definitions that the public contracts cite. Assumes nothing.
-use Prim.Native.Nat.{ℕ, _/_, _%_}
+use Prim.Native.Nat.{ℕ, _^_}
 use Prim.Native.String.{String}
 use mathlib.Core.List.{List, [], _∷_, _++_}
 use lib.ListN.{take, replicate}
@@ -106,8 +106,8 @@ table =
     ∷ record {
       number = 9;
       says = "screen_config 0x0100 alone: empty, place 14 said.";
-      given = text (screenRecord 0 0x01) ∷ (sheetOf (parseOf (screenRecord 0 0x01) .gives) .said / 16384 ∷ []) ∷ [];
-      asked = (0 ∷ []) ∷ (1 ∷ []) ∷ [];
+      given = text (screenRecord 0 0x01) ∷ (sheetOf (parseOf (screenRecord 0 0x01) .gives) .said ∷ []) ∷ [];
+      asked = (0 ∷ []) ∷ (2 ^ 14 ∷ []) ∷ [];
     }
     ∷ record {
       number = 10;

@@ -1,51 +1,66 @@
--- A field that readers of two ages both know has one value for both. Assumes nothing.
+-- A field that readers of two ages both know has one value for both, that of plain reading. Assumes nothing.
 use Prim.Native.Nat.{ℕ, _≤_}
 use mathlib.Core.Path.{_≡_, ap}
-use mathlib.Core.Bool.{not}
+use mathlib.Core.Bool.{Bool, not}
 use mathlib.Core.List.{List}
 use native.Mathlib.Omega.{arith}
 use borrow.Author.Tests.{le-leb}
+use Rattle.record.specs.declared.ResTableConfig.{ResTableConfig}
 use Rattle.record.specs.Table.{le, allZero, endOf}
-use Rattle.reading.specs.Reading.{readsAt, fieldBy, recordBy, aged, sizeOf}
+use Rattle.reading.specs.Reading.{reads, readsAt, fieldBy, recordBy, plain, aged, sizeOf}
 use Rattle.reading.proofs.FieldBytes.{field-by}
 
+-- each field that a reader of age a knows has the same value in both
+pub record Alike (a : ℕ) (r t : ResTableConfig) : Type 0 where
+  pub size : endOf 0 ≤ a → r .size ≡ t .size
+  pub imsi : endOf 1 ≤ a → r .imsi ≡ t .imsi
+  pub locale : endOf 2 ≤ a → r .locale ≡ t .locale
+  pub «screen_type» : endOf 3 ≤ a → r .«screen_type» ≡ t .«screen_type»
+  pub «generic_purpose_field» : endOf 4 ≤ a → r .«generic_purpose_field» ≡ t .«generic_purpose_field»
+  pub «screen_size» : endOf 5 ≤ a → r .«screen_size» ≡ t .«screen_size»
+  pub version : endOf 6 ≤ a → r .version ≡ t .version
+  pub «screen_config» : endOf 7 ≤ a → r .«screen_config» ≡ t .«screen_config»
+  pub «screen_size_dp» : endOf 8 ≤ a → r .«screen_size_dp» ≡ t .«screen_size_dp»
+  pub «locale_script» : endOf 9 ≤ a → r .«locale_script» ≡ t .«locale_script»
+  pub «locale_variant» : endOf 10 ≤ a → r .«locale_variant» ≡ t .«locale_variant»
+  pub «screen_config_2» : endOf 11 ≤ a → r .«screen_config_2» ≡ t .«screen_config_2»
+  pub «locale_script_was_computed» : endOf 12 ≤ a → r .«locale_script_was_computed» ≡ t .«locale_script_was_computed»
+  pub «locale_numbering_system» : endOf 13 ≤ a → r .«locale_numbering_system» ≡ t .«locale_numbering_system»
+  pub «end_padding» : endOf 14 ≤ a → r .«end_padding» ≡ t .«end_padding»
+
+alike-by : (a : ℕ) (p q : ℕ → Bool) (s : List ℕ) → ((f : ℕ) → endOf f ≤ a → fieldBy p s f ≡ fieldBy q s f) → Alike a (recordBy p s) (recordBy q s)
+unfolding recordBy
+alike-by a p q s e =
+    record {
+      size = λ h. ap le (e 0 h);
+      imsi = λ h. ap le (e 1 h);
+      locale = λ h. ap le (e 2 h);
+      «screen_type» = λ h. ap le (e 3 h);
+      «generic_purpose_field» = λ h. ap le (e 4 h);
+      «screen_size» = λ h. ap le (e 5 h);
+      version = λ h. ap le (e 6 h);
+      «screen_config» = λ h. ap le (e 7 h);
+      «screen_size_dp» = λ h. ap le (e 8 h);
+      «locale_script» = e 9;
+      «locale_variant» = e 10;
+      «screen_config_2» = λ h. ap le (e 11 h);
+      «locale_script_was_computed» = λ h. ap (λ (l : List ℕ). not (allZero l)) (e 12 h);
+      «locale_numbering_system» = e 13;
+      «end_padding» = e 14;
+    }
+
 module _ (a b : ℕ) (s : List ℕ) (rising : a ≤ b) where
-  -- its bytes are the same
+  -- its bytes are the same for both
   pub both-know : (f : ℕ) → endOf f ≤ a → fieldBy (readsAt a (sizeOf s)) s f ≡ fieldBy (readsAt b (sizeOf s)) s f
   both-know f h = field-by _ _ s f (rw (le-leb (endOf f) a h, le-leb (endOf f) b (omega arith)))
 
   -- and so is each field of the two records
-  pub same-fields :
-      (endOf 0 ≤ a → aged a s .size ≡ aged b s .size)
-      × (endOf 1 ≤ a → aged a s .imsi ≡ aged b s .imsi)
-      × (endOf 2 ≤ a → aged a s .locale ≡ aged b s .locale)
-      × (endOf 3 ≤ a → aged a s .«screen_type» ≡ aged b s .«screen_type»)
-      × (endOf 4 ≤ a → aged a s .«generic_purpose_field» ≡ aged b s .«generic_purpose_field»)
-      × (endOf 5 ≤ a → aged a s .«screen_size» ≡ aged b s .«screen_size»)
-      × (endOf 6 ≤ a → aged a s .version ≡ aged b s .version)
-      × (endOf 7 ≤ a → aged a s .«screen_config» ≡ aged b s .«screen_config»)
-      × (endOf 8 ≤ a → aged a s .«screen_size_dp» ≡ aged b s .«screen_size_dp»)
-      × (endOf 9 ≤ a → aged a s .«locale_script» ≡ aged b s .«locale_script»)
-      × (endOf 10 ≤ a → aged a s .«locale_variant» ≡ aged b s .«locale_variant»)
-      × (endOf 11 ≤ a → aged a s .«screen_config_2» ≡ aged b s .«screen_config_2»)
-      × (endOf 12 ≤ a → aged a s .«locale_script_was_computed» ≡ aged b s .«locale_script_was_computed»)
-      × (endOf 13 ≤ a → aged a s .«locale_numbering_system» ≡ aged b s .«locale_numbering_system»)
-      × (endOf 14 ≤ a → aged a s .«end_padding» ≡ aged b s .«end_padding»)
-  unfolding aged recordBy
-  same-fields = (
-    (λ h. ap le (both-know 0 h)),
-    (λ h. ap le (both-know 1 h)),
-    (λ h. ap le (both-know 2 h)),
-    (λ h. ap le (both-know 3 h)),
-    (λ h. ap le (both-know 4 h)),
-    (λ h. ap le (both-know 5 h)),
-    (λ h. ap le (both-know 6 h)),
-    (λ h. ap le (both-know 7 h)),
-    (λ h. ap le (both-know 8 h)),
-    (λ h. both-know 9 h),
-    (λ h. both-know 10 h),
-    (λ h. ap le (both-know 11 h)),
-    (λ h. ap (λ (l : List ℕ). not (allZero l)) (both-know 12 h)),
-    (λ h. both-know 13 h),
-    (λ h. both-know 14 h),
-  )
+  pub same-fields : Alike a (aged a s) (aged b s)
+  unfolding aged
+  same-fields = alike-by a (readsAt a (sizeOf s)) (readsAt b (sizeOf s)) s both-know
+
+  -- the reading at age b gives each field that ends within a as plain reading does
+  pub aged-alike : Alike a (aged b s) (plain s)
+  unfolding aged plain
+  aged-alike =
+      alike-by a (readsAt b (sizeOf s)) (reads (sizeOf s)) s (λ f h. field-by _ _ s f (let g : endOf f ≤ b = omega arith in rw (le-leb (endOf f) b g)))

@@ -4,23 +4,26 @@ use mathlib.Core.Path.{_≡_, refl, sym, ap, _∙_}
 use mathlib.Core.Bool.{Bool, true, false}
 use mathlib.Core.List.{List}
 use native.Mathlib.Omega.{arith}
+use lib.Dec.{eqb}
 use lib.ListN.{length, getD, drop}
 use Rattle.answers.specs.declared.Refusal.{Refusal}
+use Rattle.answers.specs.declared.Told.{Told}
+use Rattle.answers.specs.Tells.{refusal}
 use Rattle.buffer.specs.Written.{wrote, refused}
 use Rattle.record.specs.Ages.{isAge}
 use Rattle.record.specs.Table.{endOf}
 use Rattle.reading.specs.Reading.{parseOf, plain, taken}
+use Rattle.reading.proofs.TwoAges.{Alike, aged-alike}
 use Rattle.marking.specs.Marks.{marksOutcome}
 use Rattle.places.specs.Places.{textOf}
 use Rattle.text.specs.Text.{plainText, agedText}
-use Rattle.runs.specs.Runs.{stepOf, offsetsOf}
-use Rattle.runs.specs.Finds.{findsOf, standsOf, lastOf}
-use Rattle.runs.proofs.Alike.{Alike, aged-alike}
+use Rattle.runs.specs.Runs.{stepOf, reasonAt}
+use Rattle.runs.specs.Finds.{found, findsOf, standsOf, lastOf}
 use Rattle.runs.proofs.Stops.{each-whole}
 use Rattle.runs.proofs.Finding.{finds-are, stands-are, last-tells}
 use Rattle.runs.proofs.Showing.{ZeroFrom, Shows, parse-plain, step-gives, same-marks, shows-zero, zero-shows, shows-plain, newer-shows, byte-refuses}
 
--- what the demand says of a record, the bytes t from its place on, with buffers x and y of equal length for the texts
+-- what the demand says of the record at place q of s, with buffers x and y of equal length for the texts
 pub record OfRecord (s : List ℕ) (q older newer : ℕ) (x y : List ℕ) : Type 0 where
   -- Fields both know have the values demand 2's parsing gives,
   pub older-values : Alike older (stepOf older s q .gives) (parseOf (drop q s) .gives)
@@ -44,6 +47,8 @@ pub record Demand3 (s : List ℕ) (p older newer : ℕ) (x y : List ℕ) : Type 
   pub places : findsOf older s p ≡ findsOf newer s p
   -- and stop at the same byte
   pub stop : standsOf older s p ≡ standsOf newer s p
+  -- (each has stopped there: its next step finds no record, and the number is 0 at the exact end, else the parse refusal's)
+  pub stopped : (lastOf older s p .tells ≡ refusal (reasonAt s (standsOf older s p))) × (found (lastOf older s p) ≡ false)
   -- for the same reason.
   pub reason : lastOf older s p .tells ≡ lastOf newer s p .tells
   -- Of each record that they find:
@@ -73,6 +78,10 @@ demand-3 s p a b x y rising older newer even =
     record {
       places = finds-are a s (sym older) p ∙ sym (finds-are b s (sym newer) p);
       stop = stands-are a s (sym older) p ∙ sym (stands-are b s (sym newer) p);
+      stopped = (
+        last-tells a s (sym older) p ∙ ap (λ (q : ℕ). refusal (reasonAt s q)) (sym (stands-are a s (sym older) p)),
+        ap (λ (t : Told). eqb (t .amount) 1) (last-tells a s (sym older) p),
+      );
       reason = last-tells a s (sym older) p ∙ sym (last-tells b s (sym newer) p);
       each = λ i h. of-record s (getD (findsOf a s p) i 0) a b x y rising older newer even (whole i h);
     } where

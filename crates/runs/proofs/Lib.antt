@@ -3,7 +3,6 @@ pub mod Steps
 pub mod Walking
 pub mod Stops
 pub mod Finding
-pub mod Alike
 pub mod Showing
 pub mod Demand3
 pub mod OneOutcome

@@ -27,6 +27,6 @@ findsOf a s p = findsIn (most s) a s p
 abbrev pub standsOf : ℕ → List ℕ → ℕ → ℕ
 standsOf a s p = standsIn (most s) a s p
 
--- what its step there tells
+-- what its step there comes to
 abbrev pub lastOf : ℕ → List ℕ → ℕ → StepOutcome
 lastOf a s p = stepOf a s (standsOf a s p)
