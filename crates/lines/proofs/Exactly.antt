@@ -1,14 +1,16 @@
 -- When a call for a line is refused, and with which number; a refused line isn't lost. Assumes nothing.
 use Prim.Native.Nat.{ℕ, _≤_, _<_}
-use mathlib.Core.Path.{_≡_, refl, sym, _∙_}
+use mathlib.Core.Path.{_≡_, refl, sym, subst, _∙_}
 use mathlib.Core.Bool.{Bool, true, false}
 use mathlib.Core.List.{List}
 use native.Mathlib.Omega.{arith}
 use native.Mathlib.Decide.{decLt, decLe}
+use lib.Dec.{eqb}
 use lib.ListN.{length}
 use borrow.Author.Tests.{le-leb, lt-leb}
 use Rattle.answers.specs.declared.Refusal.{Refusal}
 use Rattle.answers.specs.Tells.{success}
+use Rattle.answers.proofs.Says.{pick}
 use Rattle.buffer.specs.Written.{wrote}
 use Rattle.buffer.proofs.Writing.{written-fits, written-short}
 use Rattle.record.specs.Ages.{isAge}
@@ -29,68 +31,52 @@ module _ (a : ℕ) (s : List ℕ) (c : Cursor) (old : List ℕ) where
   line-short : length s ≤ 65536 → isAge a ≡ true → length old < length (lineAt a s c) → lineOf a s c old ≡ lineRefused Refusal.ShortBuffer c old
   line-short h k short = at-age a s c old h (sym k) ∙ rw (written-short (lineAt a s c) old short, lt-leb (length (lineAt a s c)) (length old) short)
 
-  -- the four ways that there are
-  data Way : LineOutcome → Type 0 where
-    much : 65536 < length s → Way (lineRefused Refusal.TooMuchInput c old)
-    none : length s ≤ 65536 → isAge a ≡ false → Way (lineRefused Refusal.NotAnAge c old)
-    short : length s ≤ 65536 → isAge a ≡ true → length old < length (lineAt a s c) → Way (lineRefused Refusal.ShortBuffer c old)
-    given : length s ≤ 65536 → isAge a ≡ true → length (lineAt a s c) ≤ length old → Way (lineGiven a s c old)
+  -- what each number says of the call
+  abbrev When : ℕ → Type 0
+  When n =
+      pick (eqb n 7) (65536 < length s)
+      (pick (eqb n 3) ((length s ≤ 65536) × (isAge a ≡ false))
+      (pick (eqb n 5) ((length s ≤ 65536) × (isAge a ≡ true) × (length old < length (lineAt a s c))) (Unit {0})))
 
-  way-by : (age : Bool) → isAge a ≡ age → length s ≤ 65536 → Way (lineOf a s c old)
-  way-by false e h = rw (sym (no-age a s c old h (sym e))) (none h e)
-  way-by true e h =
+  -- and that a refused call leaves the lent bytes and gives back its cursor
+  abbrev Comes : LineOutcome → Type 0
+  Comes o = When (o .does .tells .number) × ((o .does .tells .number ≡ 0 → ⊥) → (o .does .leaves ≡ old) × (o .goes ≡ c))
+
+  comes-by : (age : Bool) → isAge a ≡ age → length s ≤ 65536 → Comes (lineOf a s c old)
+  comes-by false e h = rw (sym (no-age a s c old h (sym e))) ((h, e), (λ z. (refl, refl)))
+  comes-by true e h =
       elim (decLe (length (lineAt a s c)) (length old)) [
-        | yes l ↦ rw (line-given h e l) (given h e l)
-        | no l ↦ let g : length old < length (lineAt a s c) = omega arith in rw (line-short h e g) (short h e g)
+        | yes l ↦ rw (line-given h e l) (tt, (λ z. absurd (z refl)))
+        | no l ↦ let g : length old < length (lineAt a s c) = omega arith in rw (line-short h e g) ((h, e, g), (λ z. (refl, refl)))
       ]
 
-  way : Way (lineOf a s c old)
-  way =
+  comes : Comes (lineOf a s c old)
+  comes =
       elim (decLt 65536 (length s)) [
-        | yes h ↦ rw (sym (too-much a s c old h)) (much h)
-        | no h ↦ way-by (isAge a) refl (omega arith)
+        | yes h ↦ rw (sym (too-much a s c old h)) (h, (λ z. (refl, refl)))
+        | no h ↦ comes-by (isAge a) refl (omega arith)
       ]
 
-  seven : {o : LineOutcome} → Way o → o .does .tells .number ≡ 7 → 65536 < length s
-  seven (much h) e = h
-  seven (none h k) e = absurd (omega arith)
-  seven (short h k l) e = absurd (omega arith)
-  seven (given h k l) e = absurd (omega arith)
-
-  three : {o : LineOutcome} → Way o → o .does .tells .number ≡ 3 → (length s ≤ 65536) × (isAge a ≡ false)
-  three (much h) e = absurd (omega arith)
-  three (none h k) e = (h, k)
-  three (short h k l) e = absurd (omega arith)
-  three (given h k l) e = absurd (omega arith)
-
-  five : {o : LineOutcome} → Way o → o .does .tells .number ≡ 5 → (length s ≤ 65536) × (isAge a ≡ true) × (length old < length (lineAt a s c))
-  five (much h) e = absurd (omega arith)
-  five (none h k) e = absurd (omega arith)
-  five (short h k l) e = (h, k, l)
-  five (given h k l) e = absurd (omega arith)
-
-  stays : {o : LineOutcome} → Way o → (o .does .tells .number ≡ 0 → ⊥) → (o .does .leaves ≡ old) × (o .goes ≡ c)
-  stays (much h) e = (refl, refl)
-  stays (none h k) e = (refl, refl)
-  stays (short h k l) e = (refl, refl)
-  stays (given h k l) e = absurd (e refl)
+  -- the number that is given says so
+  says : (k : ℕ) → lineOf a s c old .does .tells .number ≡ k → When k
+  says k e = subst When e (comes .0)
 
   -- it is refused with 7 exactly when there are more than 65,536 bytes, whatever the age
   pub seven-exactly : (lineOf a s c old .does .tells .number ≡ 7 → 65536 < length s) × (65536 < length s → lineOf a s c old .does .tells .number ≡ 7)
-  seven-exactly = (seven way, (λ h. rw (sym (too-much a s c old h))))
+  seven-exactly = (says 7, (λ h. rw (sym (too-much a s c old h))))
 
   -- else with 3 exactly when the age is none of the twelve
   pub three-exactly : (lineOf a s c old .does .tells .number ≡ 3 → (length s ≤ 65536) × (isAge a ≡ false)) × ((length s ≤ 65536) × (isAge a ≡ false) → lineOf a s c old .does .tells .number ≡ 3)
-  three-exactly = (three way, (λ h. rw (sym (no-age a s c old (h .0) (sym (h .1))))))
+  three-exactly = (says 3, (λ h. rw (sym (no-age a s c old (h .0) (sym (h .1))))))
 
   -- else with 5 exactly when the lent buffer is shorter than the line
   pub five-exactly : (lineOf a s c old .does .tells .number ≡ 5 → (length s ≤ 65536) × (isAge a ≡ true) × (length old < length (lineAt a s c)))
       × ((length s ≤ 65536) × (isAge a ≡ true) × (length old < length (lineAt a s c)) → lineOf a s c old .does .tells .number ≡ 5)
-  five-exactly = (five way, (λ h. rw (line-short (h .0) (h .1) (h .2))))
+  five-exactly = (says 5, (λ h. rw (line-short (h .0) (h .1) (h .2))))
 
   -- whatever is refused, no lent byte changes, and the cursor is the one that came in
   pub refused-stays : (lineOf a s c old .does .tells .number ≡ 0 → ⊥) → (lineOf a s c old .does .leaves ≡ old) × (lineOf a s c old .goes ≡ c)
-  refused-stays = stays way
+  refused-stays = comes .1
 
   -- so a line that gets 5 isn't lost: the same cursor with more room gives it
   pub five-stays : lineOf a s c old .does .tells .number ≡ 5 → (lineOf a s c old .does .leaves ≡ old) × (lineOf a s c old .goes ≡ c)

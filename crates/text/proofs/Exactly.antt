@@ -8,6 +8,7 @@ use native.Mathlib.Decide.{decLt, decLe}
 use lib.Dec.{eqb}
 use lib.ListN.{length}
 use Rattle.answers.specs.declared.Refusal.{Refusal}
+use Rattle.answers.proofs.Says.{pick}
 use Rattle.buffer.specs.Written.{Outcome, written, wrote, refused}
 use Rattle.buffer.proofs.Writing.{written-fits, written-short}
 use Rattle.record.specs.Ages.{isAge}
@@ -18,10 +19,6 @@ use Rattle.places.specs.Places.{textOf}
 use Rattle.text.specs.Text.{agedText}
 use Rattle.text.proofs.Answers.{aged-unknown}
 use Rattle.text.proofs.Same.{shown-text}
-
-abbrev pick : Bool → Type 0 → Type 0 → Type 0
-pick true A B = A
-pick false A B = B
 
 module _ (a : ℕ) (s old : List ℕ) where
   -- the conditions of 01's numbers, each only where no earlier one holds

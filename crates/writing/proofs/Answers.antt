@@ -1,14 +1,16 @@
 -- When the writer writes and when it refuses, and with which number. Assumes nothing.
 use Prim.Native.Nat.{ℕ, _≤_, _<_}
-use mathlib.Core.Path.{_≡_, refl, sym, ap, _∙_}
+use mathlib.Core.Path.{_≡_, refl, sym, ap, _∙_, subst}
 use mathlib.Core.Bool.{Bool, true, false}
 use mathlib.Core.List.{List, _++_}
 use native.Mathlib.Omega.{arith}
 use native.Mathlib.Decide.{decLe}
+use lib.Dec.{eqb}
 use lib.ListN.{length, drop, replicate, length-replicate}
 use lib.Seq.{drop-at}
 use Rattle.answers.specs.declared.Refusal.{Refusal}
 use Rattle.answers.specs.declared.Written.{Written}
+use Rattle.answers.proofs.Says.{pick}
 use Rattle.buffer.specs.Written.{outcome, written, wrote, refused}
 use Rattle.buffer.proofs.Writing.{written-fits, written-short}
 use Rattle.record.specs.Table.{allZero}
@@ -46,38 +48,23 @@ module _ (r : ResTableConfig) (w : Shaped r) (old : List ℕ) (fine : tidy r ≡
       ∙ ap (λ (k : ℕ). outcome (Written.Wrote k) (shown r ++ drop k old)) l
       ∙ sym (wrote-is (omega arith))
 
--- the three ways that there are
-data Way (r : ResTableConfig) (old : List ℕ) : ℕ → Type 0 where
-  all : tidy r ≡ true → span r ≤ length old → Way r old 0
-  short : tidy r ≡ true → length old < span r → Way r old 5
-  unread : tidy r ≡ false → Way r old 6
+module _ (r : ResTableConfig) (w : Shaped r) (old : List ℕ) where
+  -- what each number says of the record and the lent buffer
+  abbrev When : ℕ → Type 0
+  When n =
+      pick (eqb n 0) ((tidy r ≡ true) × (span r ≤ length old)) (pick (eqb n 5) ((tidy r ≡ true) × (length old < span r)) (pick (eqb n 6) (tidy r ≡ false) ⊥))
 
--- each number is given in its own way
-way-by : (r : ResTableConfig) (w : Shaped r) (old : List ℕ) (b : Bool) → tidy r ≡ b → Way r old (writeOf r old .tells .number)
-way-by r w old false e = rw (unread-is r old e) (unread e)
-way-by r w old true e =
-    elim (decLe (span r) (length old)) [
-      | yes h ↦ rw (wrote-is r w old e h) (all e h)
-      | no h ↦ let l : length old < span r = omega arith in rw (short-is r w old e l) (short e l)
-    ]
+  when-by : (b : Bool) → tidy r ≡ b → When (writeOf r old .tells .number)
+  when-by false e = rw (unread-is r old e) e
+  when-by true e =
+      elim (decLe (span r) (length old)) [
+        | yes h ↦ rw (wrote-is r w old e h) (e, h)
+        | no h ↦ let l : length old < span r = omega arith in rw (short-is r w old e l) (e, l)
+      ]
 
-way : (r : ResTableConfig) (w : Shaped r) (old : List ℕ) → Way r old (writeOf r old .tells .number)
-way r w old = way-by r w old (tidy r) refl
-
-succeeded : (r : ResTableConfig) (old : List ℕ) (n : ℕ) → Way r old n → n ≡ 0 → (tidy r ≡ true) × (span r ≤ length old)
-succeeded r old n (all e h) z = (e, h)
-succeeded r old n (short e h) z = absurd (omega arith)
-succeeded r old n (unread e) z = absurd (omega arith)
-
-refused-five : (r : ResTableConfig) (old : List ℕ) (n : ℕ) → Way r old n → n ≡ 5 → (tidy r ≡ true) × (length old < span r)
-refused-five r old n (all e h) z = absurd (omega arith)
-refused-five r old n (short e h) z = (e, h)
-refused-five r old n (unread e) z = absurd (omega arith)
-
-refused-six : (r : ResTableConfig) (old : List ℕ) (n : ℕ) → Way r old n → n ≡ 6 → tidy r ≡ false
-refused-six r old n (all e h) z = absurd (omega arith)
-refused-six r old n (short e h) z = absurd (omega arith)
-refused-six r old n (unread e) z = e
+  -- the number that is given says so
+  says : (k : ℕ) → writeOf r old .tells .number ≡ k → When k
+  says k e = subst When e (when-by (tidy r) refl)
 
 -- a field that isn't read at the record's size and isn't zero
 pub record Stray (r : ResTableConfig) : Type 0 where
@@ -106,12 +93,12 @@ unread-zero r fine f h e = rw e at (each-at 15 (keeps r) fine f h)
 module _ (r : ResTableConfig) (w : Shaped r) (old : List ℕ) where
   -- writing is refused with 6 exactly when there is such a field
   pub six-exactly : (writeOf r old .tells .number ≡ 6 → Stray r) × (Stray r → writeOf r old .tells .number ≡ 6)
-  six-exactly = ((λ e. stray r (refused-six r old _ (way r w old) e)), (λ f. rw (unread-is r old (untidy r f))))
+  six-exactly = ((λ e. stray r (says r w old 6 e)), (λ f. rw (unread-is r old (untidy r f))))
 
   -- with 5 exactly when there is none and the lent buffer is shorter than T
   pub five-exactly : (writeOf r old .tells .number ≡ 5 → (tidy r ≡ true) × (length old < span r)) × ((tidy r ≡ true) × (length old < span r) → writeOf r old .tells .number ≡ 5)
-  five-exactly = (refused-five r old _ (way r w old), (λ h. rw (short-is r w old (h .0) (h .1))))
+  five-exactly = (says r w old 5, (λ h. rw (short-is r w old (h .0) (h .1))))
 
   -- and it succeeds exactly when there is none and the lent buffer has T bytes
   pub success-exactly : (writeOf r old .tells .number ≡ 0 → (tidy r ≡ true) × (span r ≤ length old)) × ((tidy r ≡ true) × (span r ≤ length old) → writeOf r old .tells .number ≡ 0)
-  success-exactly = (succeeded r old _ (way r w old), (λ h. rw (wrote-is r w old (h .0) (h .1))))
+  success-exactly = (says r w old 0, (λ h. rw (wrote-is r w old (h .0) (h .1))))
