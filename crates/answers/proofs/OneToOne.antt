@@ -1,8 +1,8 @@
 -- What an answer tells fixes the answer: two answers that tell the same are one. Assumes nothing.
-use Prim.Native.Nat.{ℕ, zero, suc, _<_}
+use Prim.Native.Nat.{ℕ, zero, suc, _<_, _≤_}
 use mathlib.Core.Path.{_≡_, refl, sym, ap, _∙_}
 use mathlib.Core.List.{List, [], _∷_}
-use lib.Dec.{lit<}
+use lib.Dec.{lit<, lit≤}
 use lib.ListN.{getD}
 use Rattle.answers.specs.declared.Refusal.{Refusal}
 use Rattle.answers.specs.declared.Told.{Told}
@@ -61,6 +61,16 @@ number-pos Refusal.HeldBack = lit< tt
 number-pos Refusal.ShortBuffer = lit< tt
 number-pos Refusal.UnreadField = lit< tt
 number-pos Refusal.TooMuchInput = lit< tt
+
+-- 7 is the last of 01's numbers
+pub number-most : (why : Refusal) → numberOf why ≤ 7
+number-most Refusal.FewerThan16 = lit≤ tt
+number-most Refusal.FewerThanSize = lit≤ tt
+number-most Refusal.NotAnAge = lit≤ tt
+number-most Refusal.HeldBack = lit≤ tt
+number-most Refusal.ShortBuffer = lit≤ tt
+number-most Refusal.UnreadField = lit≤ tt
+number-most Refusal.TooMuchInput = lit≤ tt
 
 -- two refusals with one number are one
 pub number-one : (a b : Refusal) → numberOf a ≡ numberOf b → a ≡ b

@@ -2,8 +2,6 @@
 use Prim.Native.Nat.{ℕ, _≤_, _<_}
 use mathlib.Core.Path.{_≡_, sym, ap, _∙_}
 use mathlib.Core.List.{List}
-use native.Mathlib.Omega.{arith}
-use native.Mathlib.Decide.{decLt}
 use lib.ListN.{length}
 use Rattle.answers.specs.declared.Told.{Told}
 use Rattle.answers.specs.declared.Written.{Written}
@@ -13,8 +11,8 @@ use Rattle.buffer.specs.Written.{Outcome, outcome}
 use Rattle.order.specs.declared.Ordering.{Ordering}
 use Rattle.order.specs.Order.{orderOf, orderingTells}
 use Rattle.reading.specs.declared.Parsed.{Parsed}
-use Rattle.reading.specs.Reading.{ParseOutcome, parsedOutcome, parseOf, amountOf, ifWhole, plain, taken, sizeOf}
-use Rattle.reading.proofs.Whole.{whole-short, whole-cut, whole-took}
+use Rattle.reading.specs.Reading.{ParseOutcome, parsedOutcome, parseOf, amountOf, ifWhole, plain, taken}
+use Rattle.reading.proofs.Whole.{amounts, takes, refuses, whole-took, refused-whole}
 use Rattle.reading.proofs.Exactly.{parse-tells, success-exactly}
 use Rattle.intake.specs.Intake.{answerTells, answerOutcome, orderTold}
 use Rattle.intake.proofs.Packing.{amount-tells}
@@ -40,12 +38,9 @@ module _ (s : List ℕ) (p : Parsed) (t : Told) (e : parsedOutcome p ≡ parseOf
   -- it was refused: the same is told by every call, whatever a whole record gives
   pub refused-told : (give : Told) → (t .number ≡ 0 → ⊥) → t ≡ ifWhole s (λ why. refusal (numberOf why)) give
   refused-told give d =
-      elim (decLt (length s) 16) [
-        | yes h ↦ tells-is ∙ whole-short s _ _ h ∙ sym (whole-short s _ _ h)
-        | no h ↦ elim (decLt (length s) (sizeOf s)) [
-          | yes g ↦ let k : 16 ≤ length s = omega arith in tells-is ∙ whole-cut s _ _ k g ∙ sym (whole-cut s _ _ k g)
-          | no g ↦ absurd (d (ap (λ (u : Told). u .number) (tells-is ∙ whole-took s _ _ (omega arith))))
-        ]
+      elim (amounts s) [
+        | takes n e ↦ absurd (d (ap (λ (u : Told). u .number) (tells-is ∙ sym e)))
+        | refuses why e ↦ tells-is ∙ sym e ∙ sym (refused-whole s _ _ why e)
       ]
 
   -- it wasn't: the record is whole, and read

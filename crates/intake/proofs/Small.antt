@@ -2,23 +2,23 @@
 -- amount 0. Assumes nothing.
 use Prim.Native.Nat.{ℕ, _≤_, _<_}
 use mathlib.Core.Path.{_≡_, refl}
-use mathlib.Core.Bool.{Bool, true, false, cond}
 use mathlib.Core.List.{List}
 use native.Mathlib.Omega.{arith}
-use native.Mathlib.Decide.{decLt}
 use lib.Dec.{leb, lit<}
 use lib.ListN.{length}
 use Rattle.answers.specs.declared.Refusal.{Refusal}
 use Rattle.answers.specs.declared.Told.{Told}
 use Rattle.answers.specs.Numbers.{numberOf}
 use Rattle.answers.specs.Tells.{success, refusal}
-use Rattle.buffer.specs.Written.{Outcome, written, wrote, refused}
+use Rattle.answers.proofs.OneToOne.{number-most}
+use Rattle.answers.proofs.Says.{chosen}
+use Rattle.buffer.specs.Written.{Outcome, written}
 use Rattle.order.specs.declared.Ordering.{Ordering}
 use Rattle.record.specs.Ages.{isAge}
 use Rattle.order.specs.Order.{orderOf, orderingTells}
 use Rattle.record.specs.Table.{Bytes}
-use Rattle.reading.specs.Reading.{ifWhole, ifAge, amountOf, plain, aged, taken, sizeOf}
-use Rattle.reading.proofs.Whole.{whole-short, whole-cut, whole-took}
+use Rattle.reading.specs.Reading.{ifWhole, ifAge, amountOf, plain, aged, taken}
+use Rattle.reading.proofs.Whole.{amounts, takes, refuses, took-says, took-whole, refused-whole}
 use Rattle.marking.specs.Marks.{marksOf, marksOutcome, heldBack}
 use Rattle.marking.proofs.Marking.{marks-length}
 use Rattle.places.specs.Places.{textOf}
@@ -32,41 +32,24 @@ pub record Small (t : Told) : Type 0 where
   pub amount : t .amount < 4294967296
   pub bare : (t .number ≡ 0 → ⊥) → t .amount ≡ 0
 
-number-most : (why : Refusal) → numberOf why < 8
-number-most Refusal.FewerThan16 = lit< tt
-number-most Refusal.FewerThanSize = lit< tt
-number-most Refusal.NotAnAge = lit< tt
-number-most Refusal.HeldBack = lit< tt
-number-most Refusal.ShortBuffer = lit< tt
-number-most Refusal.UnreadField = lit< tt
-number-most Refusal.TooMuchInput = lit< tt
-
 refusal-small : (why : Refusal) → Small (refusal (numberOf why))
-refusal-small why = record { number = number-most why; amount = lit< tt; bare = λ d. refl }
+refusal-small why = record { number = omega (arith, number-most why); amount = lit< tt; bare = λ d. refl }
 
 success-small : (n : ℕ) → n < 4294967296 → Small (success n)
 success-small n h = record { number = lit< tt; amount = h; bare = λ d. absurd (d refl) }
-
--- what holds of both ways holds of what is chosen
-chosen : {A : Type 0} (P : A → Type 0) (b : Bool) (x y : A) → P x → P y → P (cond b x y)
-chosen P true x y p q = p
-chosen P false x y p q = q
 
 -- what holds of the refusals, and of what a whole record gives, holds of the call
 module _ {A : Type 0} (P : A → Type 0) (refuse : Refusal → A) (give : A) (bad : (why : Refusal) → P (refuse why)) where
   by-whole : (s : List ℕ) → (taken s ≤ length s → P give) → P (ifWhole s refuse give)
   by-whole s good =
-      elim (decLt (length s) 16) [
-        | yes h ↦ rw (whole-short s refuse give h) (bad Refusal.FewerThan16)
-        | no h ↦ elim (decLt (length s) (sizeOf s)) [
-          | yes g ↦ let k : 16 ≤ length s = omega arith in rw (whole-cut s refuse give k g) (bad Refusal.FewerThanSize)
-          | no g ↦ let k : taken s ≤ length s = omega arith in rw (whole-took s refuse give k) (good k)
-        ]
+      elim (amounts s) [
+        | takes n e ↦ rw (took-whole s refuse give n e) (good (took-says s n e .1))
+        | refuses why e ↦ rw (refused-whole s refuse give why e) (bad why)
       ]
 
   by-age : (a : ℕ) → P give → P (ifAge a refuse give)
   unfolding ifAge
-  by-age a good = chosen P (isAge a) give (refuse Refusal.NotAnAge) good (bad Refusal.NotAnAge)
+  by-age a good = chosen P (isAge a) good (bad Refusal.NotAnAge)
 
 -- what a call that writes tells
 abbrev Tells : Outcome → Type 0
@@ -75,7 +58,7 @@ Tells o = Small (o .tells)
 written-small : (w old : List ℕ) → length w < 4294967296 → Tells (written w old)
 unfolding written
 written-small w old h =
-    chosen Tells (leb (length w) (length old)) (wrote w old) (refused Refusal.ShortBuffer old) (success-small (length w) h) (refusal-small Refusal.ShortBuffer)
+    chosen Tells (leb (length w) (length old)) (success-small (length w) h) (refusal-small Refusal.ShortBuffer)
 
 -- of taking: size is a word of 32 bits
 pub take-small : (s : List ℕ) → Bytes s → Small (amountOf s)
@@ -92,7 +75,7 @@ pub aged-small : (a : ℕ) (s old : List ℕ) → Bytes s → Small (agedText a 
 aged-small a s old bytes =
     by-age Tells _ _ refusal-small a
     (by-whole Tells _ _ refusal-small s
-    (λ whole. chosen Tells (heldBack a s) (refused Refusal.HeldBack old) _ (refusal-small Refusal.HeldBack) (written-small (textOf (aged a s)) old (omega (arith, aged-long a s bytes)))))
+    (λ whole. chosen Tells (heldBack a s) (refusal-small Refusal.HeldBack) (written-small (textOf (aged a s)) old (omega (arith, aged-long a s bytes)))))
 
 -- of marks: there are fourteen
 pub marks-small : (a : ℕ) (s old : List ℕ) → Small (marksOutcome a s old .tells)

@@ -1,12 +1,6 @@
 -- Every call of this crate has one outcome. Assumes nothing.
-use Prim.Native.Nat.{ℕ}
-use mathlib.Core.Path.{_≡_, sym, ap, _∙_}
-use Rattle.kinds.specs.declared.flags.ResTableConfigFlags.{ResTableConfigFlags}
+use mathlib.Core.Path.{_≡_, sym, _∙_}
 
 -- Each contract here says that the answer is `f input` for a definition f of specs/, so two answers to the same input are one.
 pub one-outcome : {I A : Type 0} (f : I → A) (input : I) (r s : A) → r ≡ f input → s ≡ f input → r ≡ s
 one-outcome f input r s p q = p ∙ sym q
-
--- `nth` says so of the number in its answer, which is all that the answer holds.
-pub one-flag : (r s : ResTableConfigFlags) → r .0 ≡ s .0 → r ≡ s
-one-flag r s h = ap (λ (n : ℕ). record { 0 = n }) h

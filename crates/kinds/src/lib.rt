@@ -1,10 +1,8 @@
-// The twenty flags and the sixteen kinds of 000, each kind read from the number that a record holds.
-mod flags;
+// The sixteen kinds of 000, each read from the number that a record holds.
 mod input;
 mod mode;
 mod screen;
 
-pub use flags::ResTableConfigFlags;
 pub use input::Keyboard;
 pub use input::KeysHidden;
 pub use input::NavHidden;

@@ -1,12 +1,11 @@
 -- No line is longer than 1,066 bytes, for an index that is at most its place, and a place and a size of at most 65,536. Assumes nothing.
 use Prim.Native.Nat.{ℕ, suc, _+_, _≤_}
 use mathlib.Core.Path.{_≡_}
-use mathlib.Core.Bool.{Bool, true, false, cond}
 use mathlib.Core.List.{List}
 use native.Mathlib.Omega.{arith}
 use lib.ListN.{length, length-append}
 use Rattle.answers.specs.Tells.{success}
-use Rattle.buffer.specs.Ascii.{ascii}
+use Rattle.answers.proofs.Says.{chosen}
 use Rattle.buffer.specs.Decimal.{decimal}
 use Rattle.buffer.proofs.Digits.{decimal-long}
 use Rattle.record.specs.Table.{Bytes}
@@ -15,7 +14,7 @@ use Rattle.reading.proofs.Whole.{took-says}
 use Rattle.marking.specs.Marks.{heldBack}
 use Rattle.marking.proofs.Marking.{marks-length}
 use Rattle.places.specs.Places.{textOf}
-use Rattle.lines.specs.Shown.{shownWords, shownText}
+use Rattle.lines.specs.Shown.{shownText}
 use Rattle.lines.specs.Lines.{ageLine, stopLine, recordLine}
 use Rattle.lines.proofs.Escapes.{shown-long}
 use Rattle.text.proofs.Ranges.{aged-long}
@@ -32,10 +31,9 @@ stop-long d e p n h g = simp length-append (omega arith)
 -- what is shown of a text
 pub text-shown : (a : ℕ) (s : List ℕ) → Bytes s → length (shownText a s) ≤ 1032
 unfolding shownText
-text-shown a s h = chosen (heldBack a s) where
-  chosen : (t : Bool) → length (cond t (ascii "%!") (shownWords (textOf (aged a s)))) ≤ 1032
-  chosen true = omega arith
-  chosen false = omega (arith, shown-long (textOf (aged a s)) 344 (aged-long a s h) (omega arith))
+text-shown a s h =
+    chosen (λ (w : List ℕ). length w ≤ 1032) (heldBack a s)
+    (omega arith) (omega (arith, shown-long (textOf (aged a s)) 344 (aged-long a s h) (omega arith)))
 
 pub record-long : (a i p : ℕ) (s : List ℕ) → Bytes s → i ≤ p → p ≤ 65536 → sizeOf s ≤ 65536 → length (recordLine a i p s) ≤ 1066
 unfolding recordLine

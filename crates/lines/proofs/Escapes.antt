@@ -1,13 +1,14 @@
 -- The bytes of a text as a line shows them, one by one and all. Assumes nothing.
 use Prim.Native.Nat.{ℕ, suc, _*_, _/_, _%_, _≤_, _<_}
 use mathlib.Core.Path.{_≡_, refl, sym, ap, _∙_}
-use mathlib.Core.Bool.{Bool, true, false, cond, not}
+use mathlib.Core.Bool.{true, false, not}
 use mathlib.Core.List.{List, [], _∷_, _++_, append-assoc, append-nil}
 use native.Mathlib.Omega.{arith}
 use lib.Dec.{eqb}
 use lib.ListN.{length, getD, take, length-append}
 use lib.Seq.{take-suc, take-all}
 use borrow.Author.Tests.{le-leb, lt-leb}
+use Rattle.answers.proofs.Says.{chosen}
 use Rattle.buffer.specs.Ascii.{ascii}
 use Rattle.buffer.specs.Put.{Put}
 use Rattle.buffer.proofs.Putting.{put-put, front-ends, front-take}
@@ -55,10 +56,7 @@ escaped-all w j h p = rw take-all at p
 -- a byte is shown in three at the most
 byte-long : (b : ℕ) → length (escaped b) ≤ 3
 unfolding escaped
-byte-long b = chosen (visible b) where
-  chosen : (t : Bool) → length (cond t (b ∷ []) (37 ∷ hexDigit (b / 16) ∷ hexDigit (b % 16) ∷ [])) ≤ 3
-  chosen true = omega arith
-  chosen false = omega arith
+byte-long b = chosen (λ (w : List ℕ). length w ≤ 3) (visible b) (omega arith) (omega arith)
 
 pub escaped-long : (w : List ℕ) → length (escapedAll w) ≤ 3 * length w
 unfolding escapedAll

@@ -1,7 +1,7 @@
 -- The calls in a row give the whole listing, line by line. Assumes nothing.
 use Prim.Native.Nat.{ℕ, zero, suc, _+_, _*_, _/_, _≤_, _<_}
 use mathlib.Core.Path.{_≡_, refl, sym, _∙_}
-use mathlib.Core.Bool.{Bool, true, false, cond}
+use mathlib.Core.Bool.{true}
 use mathlib.Core.List.{List, [], _∷_, _++_}
 use native.Mathlib.Omega.{arith}
 use lib.Dec.{eqb, lit≤}
@@ -11,15 +11,16 @@ use borrow.Author.Tests.{le-ltb, lt-ltb}
 use Rattle.answers.specs.declared.Refusal.{Refusal}
 use Rattle.answers.specs.Numbers.{numberOf}
 use Rattle.answers.specs.Tells.{refusal}
+use Rattle.answers.proofs.OneToOne.{number-most}
+use Rattle.answers.proofs.Says.{chosen}
 use Rattle.buffer.specs.Written.{Outcome, wrote}
 use Rattle.buffer.proofs.Digits.{decimal-long}
 use Rattle.record.specs.Table.{Bytes}
 use Rattle.record.specs.Ages.{isAge}
 use Rattle.record.proofs.Twelve.{age-bounds}
 use Rattle.reading.specs.Reading.{amountOf, taken, ifWhole}
-use Rattle.reading.proofs.Whole.{whole-short, took-says, took-whole, refused-whole}
+use Rattle.reading.proofs.Whole.{amounts, takes, refuses, whole-short, took-says, took-whole, refused-whole}
 use Rattle.runs.specs.Runs.{offsetsIn, stopIn, reasonAt}
-use Rattle.runs.proofs.Stops.{front, whole, not-whole}
 use Rattle.lines.specs.declared.Cursor.{Cursor}
 use Rattle.lines.specs.Lines.{ageLine, stopLine, recordLine, lineAt, after, lineOf, callsOf, cursorOf, recordLines, listingOf}
 use Rattle.lines.proofs.Bounds.{age-long, stop-long, whole-long}
@@ -41,23 +42,10 @@ pub record Gives (a : ℕ) (s : List ℕ) (c : Cursor) (ws : List (List ℕ)) (d
   pub calls : (olds : List (List ℕ)) → Roomy olds → length olds ≡ length ws → callsOf a s c olds ≡ eachWrote ws olds
   pub leads : (olds : List (List ℕ)) → Roomy olds → length olds ≡ length ws → cursorOf a s c olds ≡ d
 
--- 7 is the last of 01's numbers
-number-most : (why : Refusal) → numberOf why ≤ 7
-number-most Refusal.FewerThan16 = lit≤ tt
-number-most Refusal.FewerThanSize = lit≤ tt
-number-most Refusal.NotAnAge = lit≤ tt
-number-most Refusal.HeldBack = lit≤ tt
-number-most Refusal.ShortBuffer = lit≤ tt
-number-most Refusal.UnreadField = lit≤ tt
-number-most Refusal.TooMuchInput = lit≤ tt
-
 -- the number with which a run stops has one digit
 reason-most : (s : List ℕ) (p : ℕ) (why : Refusal) → refusal (numberOf why) ≡ amountOf (drop p s) → reasonAt s p ≤ 7
 unfolding reasonAt
-reason-most s p why e = rw (refused-whole (drop p s) _ _ why e) (chosen (eqb p (length s))) where
-  chosen : (t : Bool) → cond t 0 (numberOf why) ≤ 7
-  chosen true = omega arith
-  chosen false = number-most why
+reason-most s p why e = rw (refused-whole (drop p s) _ _ why e) (chosen (λ (n : ℕ). n ≤ 7) (eqb p (length s)) (lit≤ tt) (number-most why))
 
 -- bytes from a place on are bytes
 drop-bytes : (p : ℕ) (s : List ℕ) → Bytes s → Bytes (drop p s)
@@ -118,9 +106,9 @@ module _ (a : ℕ) (s : List ℕ) (known : isAge a ≡ true) (small : length s �
         stop-last i p before inside Refusal.FewerThan16 (sym (whole-short (drop p s) _ _ (omega (arith, length-drop p s))))
     run (suc n) i p before inside l =
         let x = drop p s in
-        elim (front x) [
-          | not-whole why e ↦ rw (refused-whole x _ _ why e, refused-whole x _ _ why e) (stop-last i p before inside why e)
-          | whole t e ↦
+        elim (amounts x) [
+          | refuses why e ↦ rw (refused-whole x _ _ why e, refused-whole x _ _ why e) (stop-last i p before inside why e)
+          | takes t e ↦
               let w = took-says x t e .1 in
               let k = length-drop p s in
               rw (took-whole x _ _ t e, took-whole x _ _ t e)

@@ -8,12 +8,13 @@ use native.Mathlib.Decide.{decLt, ℕ-discrete}
 use lib.Dec.{T, eqb, ltb}
 use lib.ListN.{drop, List·getD-eq-default}
 use borrow.Author.Tests.{lt-ltb, le-ltb, eq-eqb, ne-eqb}
+use Rattle.answers.proofs.Says.{chosen}
 use Rattle.buffer.specs.Ascii.{ascii}
 use Rattle.buffer.specs.Decimal.{digits, decimal}
 use Rattle.reading.specs.Reading.{reads, aged, sizeOf}
 use Rattle.reading.proofs.Rows.{in-row}
 use Rattle.record.specs.Table.{part, allZero, startOf, endOf, widthOf}
-use Rattle.marking.specs.Marks.{letter, heldBack, markOf, marksOf}
+use Rattle.marking.specs.Marks.{heldBack, markOf, marksOf}
 use Rattle.places.specs.Places.{textOf}
 use Rattle.runs.specs.Runs.{offsetsOf, stopOf, reasonAt}
 use Rattle.lines.specs.Shown.{hexDigits, hexDigit, visible, escaped, escapedAll, shownWords, shownText}
@@ -73,12 +74,11 @@ number n = digits-unbroken n n (omega arith)
 -- a mark, by its three tests, and the marks
 mark : (a : ℕ) (s : List ℕ) (f : ℕ) → markOf a s f ≡ 10 → ⊥
 unfolding markOf
-mark a s f = by (ltb a (endOf f)) (not (reads (sizeOf s) f)) (allZero (part s (startOf f) (widthOf f))) where
-  by : (t u v : Bool) → cond t (letter "U") (cond u (letter "A") (cond v (letter "B") (letter "F"))) ≡ 10 → ⊥
-  by true u v e = omega arith
-  by false true v e = omega arith
-  by false false true e = omega arith
-  by false false false e = omega arith
+mark a s f =
+    let P : ℕ → Type 0 = λ n. n ≡ 10 → ⊥ in
+    chosen P (ltb a (endOf f)) (λ e. omega arith)
+    (chosen P (not (reads (sizeOf s) f)) (λ e. omega arith)
+    (chosen P (allZero (part s (startOf f) (widthOf f))) (λ e. omega arith) (λ e. omega arith)))
 
 marked : (a : ℕ) (s fs : List ℕ) → Unbroken (map (markOf a s) fs)
 marked a s [] = none
@@ -123,10 +123,7 @@ words (b ∷ w) = shown-bytes (b ∷ w)
 
 text : (a : ℕ) (s : List ℕ) → Unbroken (shownText a s)
 unfolding shownText
-text a s = by (heldBack a s) where
-  by : (t : Bool) → Unbroken (cond t (ascii "%!") (shownWords (textOf (aged a s))))
-  by true = fixed (ascii "%!") tt
-  by false = words (textOf (aged a s))
+text a s = chosen Unbroken (heldBack a s) (fixed (ascii "%!") tt) (words (textOf (aged a s)))
 
 gap : Unbroken space
 gap = fixed space tt
@@ -156,7 +153,6 @@ records-ended a s i (p ∷ ps) ws h = (record-ended a i p (drop p s), records-en
 -- each line of every listing
 pub one-newline : (a : ℕ) (s : List ℕ) → EachEnded (listingOf a s)
 unfolding listingOf
-one-newline a s = by (tooMuch s) where
-  by : (t : Bool) → EachEnded (cond t (ageLine a ∷ stopLine 0 7 ∷ []) (ageLine a ∷ recordLines a s 0 (offsetsOf s 0) ++ (stopLine (stopOf s 0) (reasonAt s (stopOf s 0)) ∷ [])))
-  by true = (age-ended a, (stop-ended 0 7, tt))
-  by false = (age-ended a, records-ended a s 0 (offsetsOf s 0) _ (stop-ended (stopOf s 0) (reasonAt s (stopOf s 0)), tt))
+one-newline a s =
+    chosen EachEnded (tooMuch s) (age-ended a, (stop-ended 0 7, tt))
+    (age-ended a, records-ended a s 0 (offsetsOf s 0) _ (stop-ended (stopOf s 0) (reasonAt s (stopOf s 0)), tt))

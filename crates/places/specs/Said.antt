@@ -63,7 +63,7 @@ hdrSaid Hdr.No = true
 hdrSaid Hdr.Yes = true
 hdrSaid (Hdr.Any v) = false
 
--- a `Orientation` is said unless it is `Any`
+-- an `Orientation` is said unless it is `Any`
 abbrev pub orientationSaid : Orientation → Bool
 orientationSaid Orientation.Any = false
 orientationSaid Orientation.Port = true

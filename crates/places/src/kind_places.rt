@@ -125,7 +125,7 @@ pub(crate) fn hdr_place(out: &mut [u8], at: usize, n: u8) -> usize
     }
 }
 
-// The place of a Orientation.
+// The place of an Orientation.
 pub(crate) fn orientation_place(out: &mut [u8], at: usize, n: u8) -> usize
     ensures { λ r. ⌜ Says (now (out .entry)) at (kindPlace (Kind.Orientation (orientationOf n)) ∷ []) (now (out .exit)) r ⌝ }
 {

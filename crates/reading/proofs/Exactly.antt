@@ -3,14 +3,12 @@ use Prim.Native.Nat.{ℕ, _≤_, _<_}
 use mathlib.Core.Path.{_≡_, subst}
 use mathlib.Core.Bool.{true, false}
 use mathlib.Core.List.{List}
-use native.Mathlib.Omega.{arith}
-use native.Mathlib.Decide.{decLt}
 use lib.Dec.{eqb}
 use lib.ListN.{length}
 use Rattle.answers.proofs.Says.{pick}
 use Rattle.record.specs.Ages.{isAge}
 use Rattle.reading.specs.Reading.{ParseOutcome, parseOf, parseAged, amountOf, sizeOf, taken}
-use Rattle.reading.proofs.Whole.{whole-map, whole-short, whole-cut, whole-took, age-known, age-unknown}
+use Rattle.reading.proofs.Whole.{front, short, cut, whole, whole-map, whole-short, whole-cut, whole-took, age-known, age-unknown}
 
 module _ (s : List ℕ) where
   -- what each number says of the bytes
@@ -19,12 +17,10 @@ module _ (s : List ℕ) where
 
   when : When (amountOf s .number)
   when =
-      elim (decLt (length s) 16) [
-        | yes h ↦ rw (whole-short s _ _ h) h
-        | no h ↦ elim (decLt (length s) (sizeOf s)) [
-          | yes g ↦ let k : 16 ≤ length s = omega arith in rw (whole-cut s _ _ k g) (k, g)
-          | no g ↦ let k : taken s ≤ length s = omega arith in rw (whole-took s _ _ k) k
-        ]
+      elim (front s) [
+        | short h ↦ rw (whole-short s _ _ h) h
+        | cut h g ↦ rw (whole-cut s _ _ h g) (h, g)
+        | whole h ↦ rw (whole-took s _ _ h) h
       ]
 
   -- the number that is given says so

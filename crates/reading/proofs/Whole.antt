@@ -16,6 +16,22 @@ use Rattle.answers.proofs.OneToOne.{number-one, number-pos}
 use Rattle.record.specs.Ages.{isAge}
 use Rattle.reading.specs.Reading.{ifWhole, ifAge, sizeOf, taken, amountOf}
 
+-- what stands at the front of some bytes: too few for any record, a record that is cut, or one that is whole
+pub data Front (s : List ℕ) : Type 0 where
+  short : length s < 16 → Front s
+  cut : 16 ≤ length s → length s < sizeOf s → Front s
+  whole : taken s ≤ length s → Front s
+
+pub front : (s : List ℕ) → Front s
+front s =
+    elim (decLt (length s) 16) [
+      | yes h ↦ Front.short h
+      | no h ↦ elim (decLt (length s) (sizeOf s)) [
+        | yes g ↦ Front.cut (omega arith) g
+        | no g ↦ Front.whole (omega arith)
+      ]
+    ]
+
 module _ {A : Type 0} (s : List ℕ) (refuse : Refusal → A) (give : A) where
   -- fewer than 16 bytes
   pub whole-short : length s < 16 → ifWhole s refuse give ≡ refuse Refusal.FewerThan16
@@ -66,12 +82,10 @@ told-number e = ap (λ (t : Told). t .number) e
 -- an answer that took n bytes: they are T, and they are there
 pub took-says : (s : List ℕ) (n : ℕ) → success n ≡ amountOf s → (n ≡ taken s) × (taken s ≤ length s)
 took-says s n e =
-    elim (decLt (length s) 16) [
-      | yes h ↦ absurd (let z = told-number (e ∙ whole-short s _ _ h) in omega arith)
-      | no h ↦ elim (decLt (length s) (sizeOf s)) [
-        | yes g ↦ absurd (let z = told-number (e ∙ whole-cut s _ _ (omega arith) g) in omega arith)
-        | no g ↦ let t : taken s ≤ length s = omega arith in (ap (λ (t : Told). t .amount) (e ∙ whole-took s _ _ t), t)
-      ]
+    elim (front s) [
+      | short h ↦ absurd (let z = told-number (e ∙ whole-short s _ _ h) in omega arith)
+      | cut h g ↦ absurd (let z = told-number (e ∙ whole-cut s _ _ h g) in omega arith)
+      | whole h ↦ (ap (λ (t : Told). t .amount) (e ∙ whole-took s _ _ h), h)
     ]
 
 -- an answer that took bytes: the record is whole
@@ -81,11 +95,21 @@ took-whole s refuse give n e = whole-took s refuse give (took-says s n e .1)
 -- an answer that refused: the same refusal stands for every call
 pub refused-whole : {A : Type 0} (s : List ℕ) (refuse : Refusal → A) (give : A) (why : Refusal) → refusal (numberOf why) ≡ amountOf s → ifWhole s refuse give ≡ refuse why
 refused-whole s refuse give why e =
-    elim (decLt (length s) 16) [
-      | yes h ↦ whole-short s refuse give h ∙ ap refuse (number-one Refusal.FewerThan16 why (sym (told-number (e ∙ whole-short s _ _ h))))
-      | no h ↦ elim (decLt (length s) (sizeOf s)) [
-        | yes g ↦ let k : 16 ≤ length s = omega arith in
-            whole-cut s refuse give k g ∙ ap refuse (number-one Refusal.FewerThanSize why (sym (told-number (e ∙ whole-cut s _ _ k g))))
-        | no g ↦ absurd (let z = told-number (e ∙ whole-took s _ _ (omega arith)) in omega (arith, number-pos why))
-      ]
+    elim (front s) [
+      | short h ↦ whole-short s refuse give h ∙ ap refuse (number-one Refusal.FewerThan16 why (sym (told-number (e ∙ whole-short s _ _ h))))
+      | cut h g ↦ whole-cut s refuse give h g ∙ ap refuse (number-one Refusal.FewerThanSize why (sym (told-number (e ∙ whole-cut s _ _ h g))))
+      | whole h ↦ absurd (let z = told-number (e ∙ whole-took s _ _ h) in omega (arith, number-pos why))
+    ]
+
+-- what `amount` answers: it takes n bytes, or it refuses
+pub data Amounts (s : List ℕ) : Type 0 where
+  takes : (n : ℕ) → success n ≡ amountOf s → Amounts s
+  refuses : (why : Refusal) → refusal (numberOf why) ≡ amountOf s → Amounts s
+
+pub amounts : (s : List ℕ) → Amounts s
+amounts s =
+    elim (front s) [
+      | short h ↦ Amounts.refuses Refusal.FewerThan16 (sym (whole-short s _ _ h))
+      | cut h g ↦ Amounts.refuses Refusal.FewerThanSize (sym (whole-cut s _ _ h g))
+      | whole h ↦ Amounts.takes (taken s) (took-is s (taken s) refl h)
     ]

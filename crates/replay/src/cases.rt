@@ -1,6 +1,7 @@
 // What the port answers to each kind of question on the flags and on the sixteen kinds, by its tag. The table of tests/rust
 // has the same tags.
 use answers::Written;
+use flags::ResTableConfigFlags;
 use kinds::Density;
 use kinds::GrammaticalGender;
 use kinds::Hdr;
@@ -11,7 +12,6 @@ use kinds::LayoutDir;
 use kinds::NavHidden;
 use kinds::Navigation;
 use kinds::Orientation;
-use kinds::ResTableConfigFlags;
 use kinds::ScreenLong;
 use kinds::ScreenRound;
 use kinds::ScreenSize;

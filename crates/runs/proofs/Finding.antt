@@ -13,11 +13,12 @@ use Rattle.answers.specs.Numbers.{numberOf}
 use Rattle.answers.specs.Tells.{success, refusal}
 use Rattle.record.specs.Ages.{isAge}
 use Rattle.reading.specs.Reading.{amountOf}
+use Rattle.reading.proofs.Whole.{amounts, takes, refuses}
 use Rattle.runs.specs.Runs.{StepOutcome, stepOf, offsetsIn, stopIn, offsetsOf, stopOf, most, reasonAt}
 use Rattle.runs.specs.Finds.{found, findsIn, standsIn, findsOf, standsOf, lastOf}
 use Rattle.runs.proofs.Steps.{step-ended, step-refused, step-found}
 use Rattle.runs.proofs.Walking.{fits, offset-next, stop-next, offset-none, stop-here, reason-end, reason-refused}
-use Rattle.runs.proofs.Stops.{whole, not-whole, front, stop-not-whole}
+use Rattle.runs.proofs.Stops.{stop-not-whole}
 
 module _ (a : ℕ) (s : List ℕ) (known : true ≡ isAge a) where
   -- where no whole record stands a step tells the reason
@@ -39,11 +40,11 @@ module _ (a : ℕ) (s : List ℕ) (known : true ≡ isAge a) where
   unfolding findsIn offsetsIn
   finds-in zero p = refl
   finds-in (suc k) p =
-      elim (front (drop p s)) [
-        | whole n e ↦
+      elim (amounts (drop p s)) [
+        | takes n e ↦
             ap (λ (o : StepOutcome). cond (found o) (p ∷ findsIn k a s (o .next)) []) (step-found a s p known (not-end p n e) n e)
             ∙ ap (λ (l : List ℕ). p ∷ l) (finds-in k (p + n)) ∙ sym (offset-next s p n e k)
-        | not-whole why e ↦
+        | refuses why e ↦
             ap (λ (t : Told). cond (eqb (t .amount) 1) (p ∷ findsIn k a s (stepOf a s p .next)) []) (step-none p why e) ∙ sym (offset-none s p why e (suc k))
       ]
 
@@ -52,11 +53,11 @@ module _ (a : ℕ) (s : List ℕ) (known : true ≡ isAge a) where
   unfolding standsIn stopIn
   stands-in zero p = refl
   stands-in (suc k) p =
-      elim (front (drop p s)) [
-        | whole n e ↦
+      elim (amounts (drop p s)) [
+        | takes n e ↦
             ap (λ (o : StepOutcome). cond (found o) (standsIn k a s (o .next)) p) (step-found a s p known (not-end p n e) n e)
             ∙ stands-in k (p + n) ∙ sym (stop-next s p n e k)
-        | not-whole why e ↦
+        | refuses why e ↦
             ap (λ (t : Told). cond (eqb (t .amount) 1) (standsIn k a s (stepOf a s p .next)) p) (step-none p why e) ∙ sym (stop-here s p why e (suc k))
       ]
 

@@ -7,7 +7,3 @@ pub mod Showing
 pub mod Demand3
 pub mod OneOutcome
 pub mod Examples
-pub mod ByHand
-pub mod ReaderLaws
-pub mod OneReader
-pub mod ReaderStops

@@ -3,31 +3,15 @@ use Prim.Native.Nat.{ℕ, zero, suc, _+_, _-_, _*_, _/_, _≤_, _<_}
 use mathlib.Core.Path.{_≡_, refl, sym, ap, _∙_}
 use mathlib.Core.List.{List, [], _∷_}
 use native.Mathlib.Omega.{arith}
-use native.Mathlib.Decide.{decLt}
 use native.Mathlib.Nat.{le-of-suc-le-suc, not-suc-le-zero}
 use lib.ListN.{length, getD, drop, length-drop}
 use Rattle.answers.specs.declared.Refusal.{Refusal}
 use Rattle.answers.specs.Numbers.{numberOf}
-use Rattle.answers.specs.Tells.{success, refusal}
-use Rattle.reading.specs.Reading.{amountOf, taken, sizeOf}
-use Rattle.reading.proofs.Whole.{whole-short, whole-cut, took-is, took-says}
+use Rattle.answers.specs.Tells.{refusal}
+use Rattle.reading.specs.Reading.{amountOf, taken}
+use Rattle.reading.proofs.Whole.{amounts, takes, refuses, whole-short, took-says}
 use Rattle.runs.specs.Runs.{offsetsIn, stopIn, offsetsOf, stopOf, most}
 use Rattle.runs.proofs.Walking.{fits, stop-next, stop-here, offset-next, offset-none}
-
--- what stands at the front of some bytes: a whole record of n bytes, or none that is whole
-pub data Front (t : List ℕ) : Type 0 where
-  whole : (n : ℕ) → success n ≡ amountOf t → Front t
-  not-whole : (why : Refusal) → refusal (numberOf why) ≡ amountOf t → Front t
-
-pub front : (t : List ℕ) → Front t
-front t =
-    elim (decLt (length t) 16) [
-      | yes h ↦ Front.not-whole Refusal.FewerThan16 (sym (whole-short t _ _ h))
-      | no h ↦ elim (decLt (length t) (sizeOf t)) [
-        | yes g ↦ Front.not-whole Refusal.FewerThanSize (sym (whole-cut t _ _ (omega arith) g))
-        | no g ↦ Front.whole (taken t) (took-is t (taken t) refl (omega arith))
-      ]
-    ]
 
 stop-zero : (s : List ℕ) (p : ℕ) → stopIn zero s p ≡ p
 unfolding stopIn
@@ -50,9 +34,9 @@ stops-in : (k : ℕ) (s : List ℕ) (p : ℕ) → length s < p + 16 * k + 16 →
 stops-in zero s p h =
     none-at s (stopIn zero s p) p (stop-zero s p) (record { why = Refusal.FewerThan16; refused = sym (whole-short (drop p s) _ _ (omega (arith, length-drop p s))) })
 stops-in (suc k) s p h =
-    elim (front (drop p s)) [
-      | whole n e ↦ none-at s (stopIn (suc k) s p) (stopIn k s (p + n)) (stop-next s p n e k) (stops-in k s (p + n) (omega (arith, fits s p n e)))
-      | not-whole why e ↦ none-at s (stopIn (suc k) s p) p (stop-here s p why e (suc k)) (record { why = why; refused = e })
+    elim (amounts (drop p s)) [
+      | takes n e ↦ none-at s (stopIn (suc k) s p) (stopIn k s (p + n)) (stop-next s p n e k) (stops-in k s (p + n) (omega (arith, fits s p n e)))
+      | refuses why e ↦ none-at s (stopIn (suc k) s p) p (stop-here s p why e (suc k)) (record { why = why; refused = e })
     ]
 
 -- where the run stops no whole record stands
@@ -62,9 +46,9 @@ stop-not-whole s p = stops-in (most s) s p (omega arith)
 few-in : (k : ℕ) (s : List ℕ) (p : ℕ) → length (offsetsIn k s p) * 16 ≤ length s - p
 few-in zero s p = rw (offset-zero s p) (omega arith)
 few-in (suc k) s p =
-    elim (front (drop p s)) [
-      | whole n e ↦ rw (offset-next s p n e k) (omega (arith, few-in k s (p + n), fits s p n e))
-      | not-whole why e ↦ rw (offset-none s p why e (suc k)) (omega arith)
+    elim (amounts (drop p s)) [
+      | takes n e ↦ rw (offset-next s p n e k) (omega (arith, few-in k s (p + n), fits s p n e))
+      | refuses why e ↦ rw (offset-none s p why e (suc k)) (omega arith)
     ]
 
 -- the run of s from p on has at most one record for each 16 of the bytes there
@@ -80,9 +64,9 @@ first-or-later k s p n (suc j) w h ih = ih j (le-of-suc-le-suc h)
 each-in : (k : ℕ) (s : List ℕ) (p i : ℕ) → i < length (offsetsIn k s p) → taken (drop (getD (offsetsIn k s p) i 0) s) ≤ length (drop (getD (offsetsIn k s p) i 0) s)
 each-in zero s p i h = absurd (not-suc-le-zero (rw (offset-zero s p) at h))
 each-in (suc k) s p i h =
-    elim (front (drop p s)) [
-      | whole n e ↦ rw (offset-next s p n e k) (first-or-later k s p n i (took-says (drop p s) n e .1) (rw (offset-next s p n e k) at h) (each-in k s (p + n)))
-      | not-whole why e ↦ absurd (not-suc-le-zero (rw (offset-none s p why e (suc k)) at h))
+    elim (amounts (drop p s)) [
+      | takes n e ↦ rw (offset-next s p n e k) (first-or-later k s p n i (took-says (drop p s) n e .1) (rw (offset-next s p n e k) at h) (each-in k s (p + n)))
+      | refuses why e ↦ absurd (not-suc-le-zero (rw (offset-none s p why e (suc k)) at h))
     ]
 
 -- a whole record stands at each of its offsets

@@ -1,13 +1,9 @@
 // Runs of records, end to end: a step at a place, the walk to where a run stops, and the calls at a place.
-mod reader;
-
 use answers::Refusal;
 use answers::Taken;
 use answers::Told;
 use answers::Written;
 use marking::marks;
-pub use reader::RunReader;
-pub use reader::read_at;
 use reading::amount;
 use reading::lesser;
 use reading::parse_aged;

@@ -4,7 +4,7 @@ use mathlib.Core.Path.{_≡_, refl, sym, ap, subst, _∙_}
 use mathlib.Core.Bool.{Bool, true, false, cond}
 use mathlib.Core.List.{List}
 use native.Mathlib.Omega.{arith}
-use native.Mathlib.Decide.{decLt, decLe}
+use native.Mathlib.Decide.{decLe}
 use lib.Dec.{eqb}
 use lib.ListN.{length}
 use Rattle.answers.specs.declared.Refusal.{Refusal}
@@ -13,7 +13,7 @@ use Rattle.buffer.specs.Written.{Outcome, written, wrote, refused}
 use Rattle.buffer.proofs.Writing.{written-fits, written-short}
 use Rattle.record.specs.Ages.{isAge}
 use Rattle.reading.specs.Reading.{plain, aged, taken, sizeOf}
-use Rattle.reading.proofs.Whole.{age-known, whole-short, whole-cut, whole-took}
+use Rattle.reading.proofs.Whole.{front, short, cut, whole, age-known, whole-short, whole-cut, whole-took}
 use Rattle.marking.specs.Marks.{heldBack}
 use Rattle.places.specs.Places.{textOf}
 use Rattle.text.specs.Text.{agedText}
@@ -76,12 +76,10 @@ module _ (a : ℕ) (s old : List ℕ) where
   when-age : (b : Bool) → isAge a ≡ b → When (agedText a s old .tells .number)
   when-age false h = rw (three-is h) h
   when-age true h =
-      elim (decLt (length s) 16) [
-        | yes l ↦ rw (one-is (h, l)) (h, l)
-        | no l ↦ elim (decLt (length s) (sizeOf s)) [
-          | yes g ↦ let k : 16 ≤ length s = omega arith in rw (two-is (h, k, g)) (h, k, g)
-          | no g ↦ when-held h (omega arith) (heldBack a s) refl
-        ]
+      elim (front s) [
+        | short l ↦ rw (one-is (h, l)) (h, l)
+        | cut l g ↦ rw (two-is (h, l, g)) (h, l, g)
+        | whole l ↦ when-held h l (heldBack a s) refl
       ]
 
   -- the number that was given says its condition

@@ -1,6 +1,6 @@
 pub mod Answers
 pub mod Cost
-pub mod Examples
+pub mod Longest
 pub mod Long
 pub mod Ranges
 pub mod OneOutcome

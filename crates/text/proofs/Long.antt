@@ -1,7 +1,6 @@
--- No text is longer than 344 bytes, and one record's text is as long. Assumes nothing.
+-- No text is longer than 344 bytes. Assumes nothing.
 use Prim.Native.Nat.{ℕ, _+_, _*_, _/_, _%_, _≤_, _<_}
 use mathlib.Core.Path.{_≡_, refl}
-use mathlib.Core.Bool.{Bool, true, false, cond}
 use mathlib.Core.List.{List, [], _∷_, _++_}
 use native.Mathlib.Omega.{arith}
 use borrow.Author.Needs.{needs}
@@ -9,6 +8,7 @@ use lib.Dec.{eqb, lit≤}
 use lib.ListN.{length, length-append}
 use mir.Val.{Val}
 use denote.Laws.{Is}
+use Rattle.answers.proofs.Says.{chosen}
 use Rattle.buffer.specs.Ascii.{ascii}
 use Rattle.buffer.specs.Decimal.{decimal}
 use Rattle.buffer.proofs.Digits.{decimal-long}
@@ -44,10 +44,8 @@ pixel-cost r h =
     (omega (arith, length-append (decimal w ++ ascii "x") (decimal k), length-append (decimal w) (ascii "x"), decimal-long 4 w (omega arith), decimal-long 4 k (omega arith)))
 
 minor-long : (m : ℕ) → m < 65536 → length (minorWords m) ≤ 6
-minor-long m h = chosen (eqb m 0) (omega (arith, length-append (ascii ".") (decimal m), decimal-long 4 m (omega arith))) where
-  chosen : (t : Bool) → length (ascii "." ++ decimal m) ≤ 6 → length (cond t [] (ascii "." ++ decimal m)) ≤ 6
-  chosen true p = omega arith
-  chosen false p = p
+minor-long m h =
+    chosen (λ (w : List ℕ). length w ≤ 6) (eqb m 0) (omega arith) (omega (arith, length-append (ascii ".") (decimal m), decimal-long 4 m (omega arith)))
 
 version-cost : (r : ResTableConfig) → Word (r .version) → cost (versionPlace r) ≤ 13
 version-cost r h =

@@ -1,12 +1,13 @@
 -- What a reading gives of some bytes is in the ranges of its types, so that no text of it is longer than 344. Assumes nothing.
 use Prim.Native.Nat.{ℕ, zero, suc, _^_, _≤_, _<_}
 use mathlib.Core.Path.{_≡_, refl}
-use mathlib.Core.Bool.{Bool, true, false, cond}
+use mathlib.Core.Bool.{Bool}
 use mathlib.Core.List.{List}
 use native.Mathlib.Omega.{arith}
 use native.Mathlib.Decide.{decLt}
 use lib.ListN.{length, getD, drop, replicate, length-take, length-replicate, drop-of-length-le}
 use lib.Seq.{drop-cons}
+use Rattle.answers.proofs.Says.{chosen}
 use Rattle.record.specs.Table.{Bytes, part, le, startOf, widthOf}
 use Rattle.reading.specs.Reading.{fieldBy, recordBy, plain, aged}
 use Rattle.places.specs.Places.{textOf}
@@ -29,18 +30,16 @@ module _ (p : ℕ → Bool) (s : List ℕ) (f : ℕ) where
   -- a field has no more bytes than its width
   field-wide : length (fieldBy p s f) ≤ widthOf f
   unfolding fieldBy
-  field-wide = chosen (p f) where
-    chosen : (t : Bool) → length (cond t (part s (startOf f) (widthOf f)) (replicate (widthOf f) 0)) ≤ widthOf f
-    chosen true = omega (arith, length-take (widthOf f) (drop (startOf f) s))
-    chosen false = omega (arith, length-replicate {A = ℕ} (widthOf f) 0)
+  field-wide =
+      chosen (λ (w : List ℕ). length w ≤ widthOf f) (p f)
+      (omega (arith, length-take (widthOf f) (drop (startOf f) s))) (omega (arith, length-replicate {A = ℕ} (widthOf f) 0))
 
   -- and its number is as small as they make it
   field-below : Bytes s → le (fieldBy p s f) < 256 ^ widthOf f
   unfolding fieldBy
-  field-below h = chosen (p f) where
-    chosen : (t : Bool) → le (cond t (part s (startOf f) (widthOf f)) (replicate (widthOf f) 0)) < 256 ^ widthOf f
-    chosen true = part-below (widthOf f) (startOf f) s h
-    chosen false = omega (arith, zeros-none (widthOf f), part-below (widthOf f) (startOf f) s h)
+  field-below h =
+      chosen (λ (w : List ℕ). le w < 256 ^ widthOf f) (p f)
+      (part-below (widthOf f) (startOf f) s h) (omega (arith, zeros-none (widthOf f), part-below (widthOf f) (startOf f) s h))
 
 module _ (p : ℕ → Bool) (s : List ℕ) (h : Bytes s) where
   ranged : Ranged (recordBy p s)

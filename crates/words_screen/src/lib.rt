@@ -83,7 +83,7 @@ pub fn put_hdr(out: &mut [u8], at: usize, kind: Hdr) -> usize
     }
 }
 
-// Puts the words of a Orientation.
+// Puts the words of an Orientation.
 pub fn put_orientation(out: &mut [u8], at: usize, kind: Orientation) -> usize
     ensures { λ r. ⌜ Put (now (out .entry)) at (orientationWords kind) (now (out .exit)) r ⌝ }
 {

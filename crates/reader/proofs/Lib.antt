@@ -1,0 +1,4 @@
+pub mod ByHand
+pub mod ReaderLaws
+pub mod OneOutcome
+pub mod Stops
