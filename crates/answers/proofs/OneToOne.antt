@@ -52,25 +52,23 @@ unfolding back
 written-back (Written.Wrote n) = refl
 written-back (Written.Refused why) = refused-back Written.Wrote Written.Refused why
 
--- no refusal has a success's number
-pub number-pos : (why : Refusal) → 0 < numberOf why
-number-pos Refusal.FewerThan16 = lit< tt
-number-pos Refusal.FewerThanSize = lit< tt
-number-pos Refusal.NotAnAge = lit< tt
-number-pos Refusal.HeldBack = lit< tt
-number-pos Refusal.ShortBuffer = lit< tt
-number-pos Refusal.UnreadField = lit< tt
-number-pos Refusal.TooMuchInput = lit< tt
+-- 01's numbers are 1 to 7
+numbers-are : (why : Refusal) → (0 < numberOf why) × (numberOf why ≤ 7)
+numbers-are Refusal.FewerThan16 = (lit< tt, lit≤ tt)
+numbers-are Refusal.FewerThanSize = (lit< tt, lit≤ tt)
+numbers-are Refusal.NotAnAge = (lit< tt, lit≤ tt)
+numbers-are Refusal.HeldBack = (lit< tt, lit≤ tt)
+numbers-are Refusal.ShortBuffer = (lit< tt, lit≤ tt)
+numbers-are Refusal.UnreadField = (lit< tt, lit≤ tt)
+numbers-are Refusal.TooMuchInput = (lit< tt, lit≤ tt)
 
--- 7 is the last of 01's numbers
+-- so no refusal has a success's number
+pub number-pos : (why : Refusal) → 0 < numberOf why
+number-pos why = numbers-are why .0
+
+-- and 7 is the last
 pub number-most : (why : Refusal) → numberOf why ≤ 7
-number-most Refusal.FewerThan16 = lit≤ tt
-number-most Refusal.FewerThanSize = lit≤ tt
-number-most Refusal.NotAnAge = lit≤ tt
-number-most Refusal.HeldBack = lit≤ tt
-number-most Refusal.ShortBuffer = lit≤ tt
-number-most Refusal.UnreadField = lit≤ tt
-number-most Refusal.TooMuchInput = lit≤ tt
+number-most why = numbers-are why .1
 
 -- two refusals with one number are one
 pub number-one : (a b : Refusal) → numberOf a ≡ numberOf b → a ≡ b
