@@ -1,4 +1,3 @@
-pub mod OneOutcome
 pub mod Past
 pub mod Pick
 pub mod RoundTrip

@@ -1,14 +1,11 @@
--- Any two outcomes that a contract of this crate allows for the same input are one. Assumes nothing.
+-- Any two outcomes that a contract of this crate allows for the same input are one: of `probe_blank`, `probe_order`, `probe_walk` and
+-- `probe_records` by `one-answer` of answers. Assumes nothing.
 use Prim.Native.Nat.{ℕ}
 use mathlib.Core.Path.{_≡_, sym, _∙_}
 use mathlib.Core.List.{List}
 use Rattle.buffer.specs.Written.{Outcome}
 use Rattle.lines.specs.Lines.{LineOutcome}
 use Rattle.probe.specs.Probe.{Comes, cursorPacked}
-
--- of `probe_blank`, `probe_order`, `probe_walk` and `probe_records`, whatever x is defined to be: the answer is fixed
-pub one-answer : {A : Type 0} {x : A} (r s : A) → r ≡ x → s ≡ x → r ≡ s
-one-answer r s p q = p ∙ sym q
 
 -- of `probe_text`, whatever its amount n and the bytes b that it leaves are defined to be: the answer and the lent bytes are fixed
 pub one-text : {n : ℕ} {b : List ℕ} (r s : ℕ) (x y : List ℕ) → (r ≡ n) × (x ≡ b) → (s ≡ n) × (y ≡ b) → (r ≡ s) × (x ≡ y)

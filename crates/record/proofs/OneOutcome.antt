@@ -1,12 +1,10 @@
--- Every call of this crate has one outcome. Assumes nothing.
+-- Every call of this crate has one outcome, by `one-answer` of answers where its answer is a definition's. Assumes nothing.
 use Prim.Native.Nat.{ℕ}
 use mathlib.Core.Path.{_≡_, sym, ap, _∙_}
+use lib.ListN.{getD}
 use Rattle.record.specs.declared.age.Age.{Age}
-
--- Each contract here says that the answer is `f input` for a definition f of specs/, so two answers to the same input are one.
-pub one-outcome : {I A : Type 0} (f : I → A) (input : I) (r s : A) → r ≡ f input → s ≡ f input → r ≡ s
-one-outcome f input r s p q = p ∙ sym q
+use Rattle.record.specs.Ages.{ages}
 
 -- `Age::nth` says so of the number in its answer, which is all that the answer holds.
-pub one-age : (r s : Age) → r .0 ≡ s .0 → r ≡ s
-one-age r s h = ap (λ (n : ℕ). record { 0 = n }) h
+pub one-age : (row : ℕ) (r s : Age) → r .0 ≡ getD ages row 0 → s .0 ≡ getD ages row 0 → r ≡ s
+one-age row r s e f = ap (λ (n : ℕ). record { 0 = n }) (e ∙ sym f)
