@@ -9,7 +9,8 @@ use Rattle.subtag.specs.Subtag.{replacedBy, replaced, keep, dropNuls, subtagOf}
 use Rattle.record.specs.Ages.{isAge}
 use Rattle.reading.specs.Reading.{reads, fieldBy, recordBy, plain, aged, ifWhole, ifAge}
 use Rattle.marking.specs.Marks.{heldBack}
-use Rattle.locale.specs.Locale.{unpacked, legacyWords, newWords, localeWords}
+use Rattle.language.specs.Language.{unpacked}
+use Rattle.locale.specs.Locale.{legacyWords, newWords, localeWords}
 use Rattle.places.specs.Say.{say, dashAfter, sayAll}
 use Rattle.places.specs.Places.{placesOf, textOf}
 use Rattle.sheet.specs.Sheet.{saidOf, sheetOf}

@@ -1,1 +1,2 @@
-// 01's twelve judged examples. The table stands in specs/Judged.antt and its theorem in proofs/Twelve.antt; there is no program.
+// What is shown by computation: 01's twelve judged examples (specs/Judged.antt, proofs/Twelve.antt) and a record whose text is the longest
+// (proofs/Longest.antt). There is no program.

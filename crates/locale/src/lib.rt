@@ -1,7 +1,9 @@
-// The locale of a record: language and region unpacked, and its words in the legacy and in the new format.
+// The words of a record's locale, in the legacy and in the new format.
 use answers::Written;
 use buffer::put;
 use buffer::write;
+use language::put_language;
+use language::put_region;
 use record::ResTableConfig;
 use subtag::put_subtag;
 ghost use mathlib.Core.Path.{_≡_};
@@ -12,56 +14,7 @@ ghost use Rattle.buffer.specs.Ascii.{ascii};
 ghost use Rattle.buffer.specs.Put.{Put};
 ghost use Rattle.buffer.specs.Written.{outcome, written};
 ghost use Rattle.subtag.specs.Subtag.{subtagOf};
-ghost use Rattle.locale.specs.Locale.{unpacked, languageOf, regionOf, language, region, begins, hasRegion, scriptProvided, behind, legacyWords, newWords, localeWords, localeSaid, localeText};
-
-// Two bytes unpacked to four, packed letters counted from base, which is at most 'a'.
-fn unpack_language_or_region(a: u8, b: u8, base: u8) -> [u8; 4]
-    requires { ⌜ base ≤ 97 ⌝ }
-    ensures { λ r. ⌜ r ≡ unpacked base a b ⌝ }
-{
-    if 128 <= a {
-        return [
-            b % 32 + base,
-            b / 32 + a % 4 * 8 + base,
-            a / 4 % 32 + base,
-            0,
-        ];
-    }
-    if a == 0 {
-        return [0; 4];
-    }
-    [a, b, 0, 0]
-}
-
-// Puts a subtag of four bytes.
-fn put_four(out: &mut [u8], at: usize, src: &[u8; 4]) -> usize
-    ensures { λ r. ⌜ Put (now (out .entry)) at (subtagOf (now (src .entry))) (now (out .exit)) r ⌝ }
-{
-    put_subtag(out, at, src)
-}
-
-// Puts a subtag of eight bytes.
-fn put_eight(out: &mut [u8], at: usize, src: &[u8; 8]) -> usize
-    ensures { λ r. ⌜ Put (now (out .entry)) at (subtagOf (now (src .entry))) (now (out .exit)) r ⌝ }
-{
-    put_subtag(out, at, src)
-}
-
-// Puts a language of two bytes. Machinery, as all that is called `put`: it refuses nothing.
-pub fn put_language(out: &mut [u8], at: usize, a: u8, b: u8) -> usize
-    ensures { λ r. ⌜ Put (now (out .entry)) at (languageOf a b) (now (out .exit)) r ⌝ }
-{
-    let unpacked = unpack_language_or_region(a, b, b'a');
-    put_four(out, at, &unpacked)
-}
-
-// Puts a region of two bytes.
-pub fn put_region(out: &mut [u8], at: usize, a: u8, b: u8) -> usize
-    ensures { λ r. ⌜ Put (now (out .entry)) at (regionOf a b) (now (out .exit)) r ⌝ }
-{
-    let unpacked = unpack_language_or_region(a, b, b'0');
-    put_four(out, at, &unpacked)
-}
+ghost use Rattle.locale.specs.Locale.{language, region, begins, hasRegion, scriptProvided, behind, legacyWords, newWords, localeWords, localeSaid, localeText};
 
 // The record's language, put.
 fn put_own_language(out: &mut [u8], at: usize, r: ResTableConfig) -> usize
@@ -88,20 +41,8 @@ fn put_own_region(out: &mut [u8], at: usize, sign: &[u8], r: ResTableConfig) -> 
     )
 }
 
-// Four bytes behind a sign, where they are there.
-fn put_four_behind(out: &mut [u8], at: usize, there: bool, sign: &[u8], src: &[u8; 4]) -> usize
-    ensures { λ n. ⌜ Put (now (out .entry)) at (behind there (now (sign .entry)) (subtagOf (now (src .entry)))) (now (out .exit)) n ⌝ }
-{
-    if there {
-        let a = put(out, at, sign);
-        put_subtag(out, a, src)
-    } else {
-        at
-    }
-}
-
-// Eight bytes behind a sign, where they are there.
-fn put_eight_behind(out: &mut [u8], at: usize, there: bool, sign: &[u8], src: &[u8; 8]) -> usize
+// A subtag behind a sign, where it is there.
+fn put_behind(out: &mut [u8], at: usize, there: bool, sign: &[u8], src: &[u8]) -> usize
     ensures { λ n. ⌜ Put (now (out .entry)) at (behind there (now (sign .entry)) (subtagOf (now (src .entry)))) (now (out .exit)) n ⌝ }
 {
     if there {
@@ -144,7 +85,7 @@ fn put_script(out: &mut [u8], at: usize, r: ResTableConfig) -> usize
 {
     let script = r.locale_script;
     let there = script_provided(r);
-    put_four_behind(out, at, there, b"+", &script)
+    put_behind(out, at, there, b"+", &script)
 }
 
 // Eight bytes behind a sign, where they begin with one that isn't 0.
@@ -152,7 +93,7 @@ fn put_begun(out: &mut [u8], at: usize, sign: &[u8], src: [u8; 8]) -> usize
     ensures { λ n. ⌜ Put (now (out .entry)) at (behind (begins src) (now (sign .entry)) (subtagOf src)) (now (out .exit)) n ⌝ }
 {
     let there = eight_begin(src);
-    put_eight_behind(out, at, there, sign, &src)
+    put_behind(out, at, there, sign, &src)
 }
 
 // Puts the new format.
@@ -193,24 +134,6 @@ pub fn put_locale(out: &mut [u8], at: usize, r: ResTableConfig) -> usize
     } else {
         put_legacy(out, at, r)
     }
-}
-
-// Writes a language of two bytes; where out is shorter, it is left as it is.
-pub fn write_language(out: &mut [u8], a: u8, b: u8) -> Written
-    ensures { λ r. ⌜ outcome r (now (out .exit)) ≡ written (languageOf a b) (now (out .entry)) ⌝ }
-{
-    let mut own = [0u8; 9];
-    let n = put_language(&mut own, 0, a, b);
-    write(out, &own[..n])
-}
-
-// Writes a region of two bytes; where out is shorter, it is left as it is.
-pub fn write_region(out: &mut [u8], a: u8, b: u8) -> Written
-    ensures { λ r. ⌜ outcome r (now (out .exit)) ≡ written (regionOf a b) (now (out .entry)) ⌝ }
-{
-    let mut own = [0u8; 4];
-    let n = put_region(&mut own, 0, a, b);
-    write(out, &own[..n])
 }
 
 // Puts the words of a record's locale where they are said.

@@ -62,7 +62,7 @@ fn language(payload: &[u8], out: &mut [u8]) -> usize {
     if payload.len() < 2 {
         return 0;
     }
-    let said = locale::write_language(out, payload[0], payload[1]);
+    let said = language::write_language(out, payload[0], payload[1]);
     length(said, out)
 }
 
@@ -71,7 +71,7 @@ fn region(payload: &[u8], out: &mut [u8]) -> usize {
     if payload.len() < 2 {
         return 0;
     }
-    let said = locale::write_region(out, payload[0], payload[1]);
+    let said = language::write_region(out, payload[0], payload[1]);
     length(said, out)
 }
 

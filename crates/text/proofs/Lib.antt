@@ -1,6 +1,5 @@
 pub mod Answers
 pub mod Cost
-pub mod Longest
 pub mod Long
 pub mod Ranges
 pub mod OneOutcome

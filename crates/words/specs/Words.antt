@@ -2,7 +2,8 @@
 use Prim.Native.Nat.{ℕ}
 use mathlib.Core.List.{List}
 use Rattle.kinds.specs.declared.Kind.{Kind}
-use Rattle.words_screen.specs.Screen.{layoutDirWords, screenSizeWords, screenLongWords, screenRoundWords, wideColorGamutWords, hdrWords, orientationWords, densityWords}
+use Rattle.words_layout.specs.Layout.{layoutDirWords, screenSizeWords, screenLongWords, screenRoundWords}
+use Rattle.words_screen.specs.Screen.{wideColorGamutWords, hdrWords, orientationWords, densityWords}
 use Rattle.words_mode.specs.Mode.{grammaticalGenderWords, uiModeWords, uiModeNightWords}
 use Rattle.words_input.specs.Input.{touchscreenWords, keysHiddenWords, keyboardWords, navHiddenWords, navigationWords}
 

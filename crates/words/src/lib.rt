@@ -13,10 +13,10 @@ pub fn put_words(out: &mut [u8], at: usize, kind: Kind) -> usize
 {
     match kind {
         Kind::GrammaticalGender(k) => words_mode::put_grammatical_gender(out, at, k),
-        Kind::LayoutDir(k) => words_screen::put_layout_dir(out, at, k),
-        Kind::ScreenSize(k) => words_screen::put_screen_size(out, at, k),
-        Kind::ScreenLong(k) => words_screen::put_screen_long(out, at, k),
-        Kind::ScreenRound(k) => words_screen::put_screen_round(out, at, k),
+        Kind::LayoutDir(k) => words_layout::put_layout_dir(out, at, k),
+        Kind::ScreenSize(k) => words_layout::put_screen_size(out, at, k),
+        Kind::ScreenLong(k) => words_layout::put_screen_long(out, at, k),
+        Kind::ScreenRound(k) => words_layout::put_screen_round(out, at, k),
         Kind::WideColorGamut(k) => words_screen::put_wide_color_gamut(out, at, k),
         Kind::Hdr(k) => words_screen::put_hdr(out, at, k),
         Kind::Orientation(k) => words_screen::put_orientation(out, at, k),

@@ -7,5 +7,5 @@ pub put-begun-spec : {M : Type 1} → statement M
 put-begun-spec =
     tie.close
     (tie.spec
-    (λ c κs. tt) (λ c κs. tt) (λ c. search needs)
-    (λ c. rw (← c .before .before .before .before .before .eight-begin .ensures) (c .before .before .put-eight-behind .ensures)))
+    (λ c κs. tt) (λ c. search needs) (λ c κs. tt) (λ c. search needs)
+    (λ c. rw (← c .before .before .before .before .before .eight-begin .ensures) (c .before .before .put-behind .ensures)))

@@ -7,5 +7,5 @@ pub put-script-spec : {M : Type 1} → statement M
 put-script-spec =
     tie.close
     (tie.spec
-    (λ c κs. tt) (λ c. search needs) (λ c κs. tt) (λ c. search needs)
-    (λ c. rw (← c .before .before .before .before .before .before .script-provided .ensures) (c .before .before .put-four-behind .ensures)))
+    (λ c κs. tt) (λ c. search needs) (λ c. search needs) (λ c κs. tt) (λ c. search needs)
+    (λ c. rw (← c .before .before .before .before .before .before .script-provided .ensures) (c .before .before .put-behind .ensures)))

@@ -1,7 +1,7 @@
 -- Each case puts its own words. Assumes nothing.
 use borrow.Author.Needs.{needs}
-use Rattle.words_screen.proofs.put_layout_dir.Statement.{statement}
-use Rattle.words_screen.proofs.put_layout_dir.Tie as tie
+use Rattle.words_layout.proofs.put_layout_dir.Statement.{statement}
+use Rattle.words_layout.proofs.put_layout_dir.Tie as tie
 
 pub put-layout-dir-spec : {M : Type 1} → statement M
 put-layout-dir-spec =

@@ -1,10 +1,10 @@
 -- Each case puts its own words. Assumes nothing.
 use borrow.Author.Needs.{needs}
-use Rattle.words_screen.proofs.put_screen_long.Statement.{statement}
-use Rattle.words_screen.proofs.put_screen_long.Tie as tie
+use Rattle.words_layout.proofs.put_screen_round.Statement.{statement}
+use Rattle.words_layout.proofs.put_screen_round.Tie as tie
 
-pub put-screen-long-spec : {M : Type 1} → statement M
-put-screen-long-spec =
+pub put-screen-round-spec : {M : Type 1} → statement M
+put-screen-round-spec =
     tie.close
     (tie.spec
     (λ c. search needs) (λ c. search needs) (λ c κs. tt) (λ c. search needs) (λ c. search needs) (λ c κs. tt) (λ c. search needs)

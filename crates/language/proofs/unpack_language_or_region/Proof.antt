@@ -1,9 +1,9 @@
 -- Each of the three ways unpacks as 000 does. Assumes nothing.
 use borrow.Author.Tests.{le-leb, lt-leb, eq-eqb, ne-eqb}
-use Rattle.locale.specs.Locale.{unpacked}
+use Rattle.language.specs.Language.{unpacked}
 use borrow.Author.Needs.{needs}
-use Rattle.locale.proofs.unpack_language_or_region.Statement.{statement}
-use Rattle.locale.proofs.unpack_language_or_region.Tie as tie
+use Rattle.language.proofs.unpack_language_or_region.Statement.{statement}
+use Rattle.language.proofs.unpack_language_or_region.Tie as tie
 
 returns : tie.Need-returns
 unfolding unpacked

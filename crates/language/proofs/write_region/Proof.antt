@@ -4,10 +4,10 @@ use native.Mathlib.Omega.{arith}
 use lib.Seq.{length-take-le}
 use Rattle.buffer.proofs.Putting.{put-most}
 use Rattle.buffer.proofs.Writing.{copied}
-use Rattle.locale.proofs.Long.{region-long}
+use Rattle.language.proofs.Long.{region-long}
 use borrow.Author.Needs.{needs}
-use Rattle.locale.proofs.write_region.Statement.{statement}
-use Rattle.locale.proofs.write_region.Tie as tie
+use Rattle.language.proofs.write_region.Statement.{statement}
+use Rattle.language.proofs.write_region.Tie as tie
 
 pub write-region-spec : {M : Type 1} → statement M
 write-region-spec =

@@ -1,7 +1,7 @@
 -- The unpacked language, put. Assumes nothing.
 use borrow.Author.Needs.{needs}
-use Rattle.locale.proofs.put_language.Statement.{statement}
-use Rattle.locale.proofs.put_language.Tie as tie
+use Rattle.language.proofs.put_language.Statement.{statement}
+use Rattle.language.proofs.put_language.Tie as tie
 
 pub put-language-spec : {M : Type 1} → statement M
 put-language-spec =

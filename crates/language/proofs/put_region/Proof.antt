@@ -1,7 +1,7 @@
 -- The unpacked region, put. Assumes nothing.
 use borrow.Author.Needs.{needs}
-use Rattle.locale.proofs.put_region.Statement.{statement}
-use Rattle.locale.proofs.put_region.Tie as tie
+use Rattle.language.proofs.put_region.Statement.{statement}
+use Rattle.language.proofs.put_region.Tie as tie
 
 pub put-region-spec : {M : Type 1} → statement M
 put-region-spec =

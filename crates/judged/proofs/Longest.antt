@@ -6,7 +6,8 @@ use Rattle.buffer.specs.Decimal.{digits, decimal}
 use Rattle.subtag.specs.Utf8.{okAt, frontOf}
 use Rattle.subtag.specs.Subtag.{replacedBy, replaced, keep, dropNuls, subtagOf}
 use Rattle.record.specs.declared.ResTableConfig.{ResTableConfig}
-use Rattle.locale.specs.Locale.{unpacked, legacyWords, newWords, localeWords}
+use Rattle.language.specs.Language.{unpacked}
+use Rattle.locale.specs.Locale.{legacyWords, newWords, localeWords}
 use Rattle.places.specs.Say.{say, dashAfter, sayAll}
 use Rattle.places.specs.Places.{placesOf, textOf}
 

@@ -1,7 +1,7 @@
 -- Each case puts its own words. Assumes nothing.
 use borrow.Author.Needs.{needs}
-use Rattle.words_screen.proofs.put_screen_size.Statement.{statement}
-use Rattle.words_screen.proofs.put_screen_size.Tie as tie
+use Rattle.words_layout.proofs.put_screen_size.Statement.{statement}
+use Rattle.words_layout.proofs.put_screen_size.Tie as tie
 
 pub put-screen-size-spec : {M : Type 1} → statement M
 put-screen-size-spec =

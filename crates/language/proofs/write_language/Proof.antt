@@ -4,10 +4,10 @@ use native.Mathlib.Omega.{arith}
 use lib.Seq.{length-take-le}
 use Rattle.buffer.proofs.Putting.{put-most}
 use Rattle.buffer.proofs.Writing.{copied}
-use Rattle.locale.proofs.Long.{language-long}
+use Rattle.language.proofs.Long.{language-long}
 use borrow.Author.Needs.{needs}
-use Rattle.locale.proofs.write_language.Statement.{statement}
-use Rattle.locale.proofs.write_language.Tie as tie
+use Rattle.language.proofs.write_language.Statement.{statement}
+use Rattle.language.proofs.write_language.Tie as tie
 
 pub write-language-spec : {M : Type 1} → statement M
 write-language-spec =

@@ -1,0 +1,13 @@
+-- The subtag stands behind its sign, where it is there. Assumes nothing.
+use Rattle.buffer.proofs.Putting.{put-put, put-nil}
+use borrow.Author.Needs.{needs}
+use Rattle.locale.proofs.put_behind.Statement.{statement}
+use Rattle.locale.proofs.put_behind.Tie as tie
+
+pub put-behind-spec : {M : Type 1} → statement M
+put-behind-spec =
+    tie.close
+    (tie.spec
+    (λ c κs. tt) (λ c κs. tt) (λ c. search needs)
+    (λ c. rw (c .before .before .before .before .before .before .before .before .if1 .taken) (put-put (c .before .before .before .before .before .before .put .ensures) (c .before .before .put-subtag .ensures)))
+    (λ c. rw (c .if1 .left) put-nil))
