@@ -1,3 +1,4 @@
 pub mod OneOutcome
 pub mod OneToOne
+pub mod Rest
 pub mod Says

@@ -1,4 +1,5 @@
 -- What is chosen by a test: a type, or one of two values. Assumes nothing.
+use mathlib.Core.Path.{_≡_, refl}
 use mathlib.Core.Bool.{Bool, true, false, cond}
 
 -- the first type where the test holds, else the second
@@ -10,3 +11,8 @@ pick false A B = B
 pub chosen : {A : Type 0} (P : A → Type 0) (b : Bool) {x y : A} → P x → P y → P (cond b x y)
 chosen P true p q = p
 chosen P false p q = q
+
+-- of the first it is enough where the test holds
+pub chosen-where : {A : Type 0} (P : A → Type 0) (b : Bool) {x y : A} → (b ≡ true → P x) → P y → P (cond b x y)
+chosen-where P true p q = p refl
+chosen-where P false p q = q

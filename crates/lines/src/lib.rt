@@ -1,6 +1,7 @@
 // The lines of a listing, one at a time in a lent buffer. Each call looks only at the record at its cursor.
 mod shown;
 
+use ages::Age;
 use answers::Refusal;
 use answers::Taken;
 use answers::Written;
@@ -14,7 +15,6 @@ use marking::marks;
 use reading::amount;
 use reading::lesser;
 use reading::parse_aged;
-use record::Age;
 use record::ResTableConfig;
 use shown::put_shown;
 ghost use mathlib.Core.Path.{_≡_};
@@ -29,7 +29,7 @@ ghost use Rattle.buffer.specs.Ascii.{ascii};
 ghost use Rattle.buffer.specs.Decimal.{decimal};
 ghost use Rattle.buffer.specs.Put.{Put};
 ghost use Rattle.buffer.specs.Written.{outcome, written};
-ghost use Rattle.record.specs.Ages.{isAge};
+ghost use Rattle.ages.specs.Ages.{isAge};
 ghost use Rattle.reading.specs.Reading.{amountOf, taken};
 ghost use Rattle.marking.specs.Marks.{lateBytes, marksOf};
 ghost use Rattle.places.specs.Places.{textOf};

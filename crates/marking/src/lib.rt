@@ -1,4 +1,5 @@
 // The marks of a record's fields, and whether a reader of an age holds the record back.
+use ages::Age;
 use answers::Refusal;
 use answers::Taken;
 use answers::Told;
@@ -6,7 +7,6 @@ use answers::Written;
 use buffer::write;
 use reading::amount;
 use reading::lesser;
-use record::Age;
 use record::ENDS;
 use record::STARTS;
 ghost use mathlib.Core.Path.{_≡_};

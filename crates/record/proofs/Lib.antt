@@ -1,3 +1,1 @@
-pub mod Among
-pub mod OneOutcome
-pub mod Twelve
+pub mod Ends

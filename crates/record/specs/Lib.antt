@@ -1,4 +1,3 @@
 pub mod Accessors
-pub mod Ages
 pub mod Blank
 pub mod Table

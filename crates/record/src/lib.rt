@@ -1,6 +1,5 @@
-// The record, its field table and the ages of readers.
+// The record and its field table.
 mod accessors;
-mod age;
 
 pub use accessors::KeyboardNavigationInputFlags;
 pub use accessors::MccMnc;
@@ -10,7 +9,6 @@ pub use accessors::ScreenLayoutUiSmallestWidth;
 pub use accessors::ScreenWidthHeight;
 pub use accessors::ScreenWidthHeightDp;
 pub use accessors::SdkMinorVersion;
-pub use age::Age;
 ghost use mathlib.Core.Path.{_≡_};
 ghost use Rattle.record.specs.Blank.{blankRecord};
 ghost use Rattle.record.specs.Table.{endOf, startOf};

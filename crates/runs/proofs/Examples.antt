@@ -5,7 +5,7 @@ use mathlib.Core.List.{List, [], _∷_, _++_}
 use lib.ListN.{replicate}
 use Rattle.answers.specs.Tells.{success, refusal}
 use Rattle.record.specs.Blank.{blankRecord}
-use Rattle.record.specs.Ages.{isAge}
+use Rattle.ages.specs.Ages.{isAge}
 use Rattle.reading.specs.Reading.{ifAge, ifWhole}
 use Rattle.runs.specs.Runs.{offsetsIn, offsetsOf, stopIn, stopOf, reasonAt, runOf, stepOf, stepStays}
 

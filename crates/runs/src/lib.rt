@@ -1,4 +1,5 @@
 // Runs of records, end to end: a step at a place, the walk to where a run stops, and the calls at a place.
+use ages::Age;
 use answers::Refusal;
 use answers::Taken;
 use answers::Told;
@@ -7,7 +8,6 @@ use marking::marks;
 use reading::amount;
 use reading::lesser;
 use reading::parse_aged;
-use record::Age;
 use record::ResTableConfig;
 use record::blank;
 use text::aged_text;

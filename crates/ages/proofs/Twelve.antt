@@ -5,14 +5,9 @@ use mathlib.Core.Bool.{Bool, true, false, _||_, _&&_}
 use mathlib.Core.List.{List, [], _∷_, List·Memᴰ, List·Memᴰ·head, List·Memᴰ·tail}
 use native.Mathlib.Omega.{arith}
 use lib.Dec.{eqb, leb}
-use lib.ListN.{length, getD, drop}
+use lib.ListN.{length, getD}
 use borrow.Author.Tests.{eqb-true, eq-eqb, leb-true}
-use Rattle.record.specs.Ages.{ages, among, isAge}
-use Rattle.record.specs.Table.{ends}
-
--- the ages are the ends of the fields from screen_type on
-pub ages-are-ends : ages ≡ drop 3 ends
-ages-are-ends = refl
+use Rattle.ages.specs.Ages.{ages, among, isAge}
 
 no-yes : {A : Type 0} → false ≡ true → A
 no-yes e = let z : _≡_ {A = ℕ} 0 1 = cc in absurd (none z)

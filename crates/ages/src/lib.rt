@@ -1,7 +1,7 @@
 // The ages of readers: where what a reader knows of a record ends.
 ghost use mathlib.Core.Path.{_≡_};
 ghost use lib.ListN.{getD};
-ghost use Rattle.record.specs.Ages.{ages, isAge};
+ghost use Rattle.ages.specs.Ages.{ages, isAge};
 
 // An age: one of the twelve constants, or a number that is refused.
 pub struct Age(pub u32);

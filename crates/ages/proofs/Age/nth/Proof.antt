@@ -1,10 +1,10 @@
 -- `Age::nth` answers each row of the twelve, and 0 past them. Assumes nothing.
 use mathlib.Core.Path.{sym}
 use lib.ListN.{List·getD-eq-default}
-use Rattle.kinds.proofs.Past.{past}
-use Rattle.record.specs.Ages.{ages}
-use Rattle.record.proofs.age.Age.nth.Statement.{statement}
-use Rattle.record.proofs.age.Age.nth.Tie as tie
+use Rattle.answers.proofs.Rest.{past}
+use Rattle.ages.specs.Ages.{ages}
+use Rattle.ages.proofs.Age.nth.Statement.{statement}
+use Rattle.ages.proofs.Age.nth.Tie as tie
 
 pub nth-spec : {M : Type 1} → statement M
 nth-spec =

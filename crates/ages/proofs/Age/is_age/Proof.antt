@@ -1,8 +1,8 @@
 -- `Age::is_age` answers whether the age is one of the twelve. Assumes nothing.
-use Rattle.record.specs.Ages.{ages, isAge}
-use Rattle.record.proofs.Among.{none-among}
-use Rattle.record.proofs.age.Age.is_age.Statement.{statement}
-use Rattle.record.proofs.age.Age.is_age.Tie as tie
+use Rattle.ages.specs.Ages.{ages, isAge}
+use Rattle.ages.proofs.Among.{none-among}
+use Rattle.ages.proofs.Age.is_age.Statement.{statement}
+use Rattle.ages.proofs.Age.is_age.Tie as tie
 
 pub is-age-spec : {M : Type 1} → statement M
 unfolding isAge

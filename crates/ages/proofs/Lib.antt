@@ -1,0 +1,3 @@
+pub mod Among
+pub mod OneOutcome
+pub mod Twelve
