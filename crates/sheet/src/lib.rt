@@ -74,7 +74,6 @@ pub fn sheet_of(r: ResTableConfig) -> Sheet
     ensures { λ s. ⌜ s ≡ sheetOf r ⌝ }
 {
     let codes = r.get_mcc_mnc();
-    let gender = r.get_grammatical_inflection();
     let layout = r.get_screen_layout_ui_smallest_width();
     let second = r.get_screen_layout_2_color_mode();
     let screen = r.get_orientation_touchscreen_density();
@@ -92,7 +91,7 @@ pub fn sheet_of(r: ResTableConfig) -> Sheet
         screen_height: sides.screen_height,
         sdk_version: version.sdk_version,
         minor_version: version.minor_version,
-        grammatical_gender: GrammaticalGender::from(gender),
+        grammatical_gender: GrammaticalGender::from(r.get_grammatical_inflection()),
         layout_dir: LayoutDir::from(layout.screen_layout),
         screen_size: ScreenSize::from(layout.screen_layout),
         screen_long: ScreenLong::from(layout.screen_layout),
