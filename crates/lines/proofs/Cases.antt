@@ -18,25 +18,27 @@ use Rattle.buffer.proofs.Writing.{written-fits}
 use Rattle.ages.specs.Ages.{isAge}
 use Rattle.reading.specs.Reading.{amountOf}
 use Rattle.reading.proofs.Whole.{age-known, age-unknown, took-says, took-whole, refused-whole}
+use Rattle.marking.proofs.Answering.{gives}
 use Rattle.runs.specs.Runs.{reasonAt}
 use Rattle.runs.proofs.Rest.{rest, rest-from}
+use Rattle.shown.specs.Shown.{recordLineOf}
 use Rattle.lines.specs.declared.Cursor.{Cursor}
 use Rattle.lines.specs.declared.Lined.{Lined}
-use Rattle.lines.specs.Lines.{LineOutcome, ageLine, stopLine, recordLine, lineAt, after, linedOutcome, lineRefused, lineWritten, lineOf}
+use Rattle.lines.specs.Lines.{LineOutcome, ageLine, stopLine, lineAt, after, linedOutcome, lineRefused, lineWritten, lineOf}
 use Rattle.lines.proofs.Answers.{went}
 
 -- what `amount` answers of the bytes from a place on, which may be past their end
 module _ (s : List ℕ) (p from : ℕ) (start : from ≡ min p (length s)) (amount : Taken) (told : takenTells amount ≡ amountOf (rest s from)) where
-  pub took : (t : ℕ) → amount ≡ Taken.Took t → success t ≡ amountOf (rest s from)
+  took : (t : ℕ) → amount ≡ Taken.Took t → success t ≡ amountOf (rest s from)
   took t e = rw e at told
 
   -- a record that stands there whole lies within the bytes
-  pub within : (t : ℕ) → amount ≡ Taken.Took t → length s ≤ 65536 → (p + length (rest s from) ≤ 65536) × (p + t ≤ 65536)
+  pub within : (t : ℕ) → amount ≡ Taken.Took t → length s ≤ 65536 → p + t ≤ 65536
   within t e h =
       let w = took-says (rest s from) t (took t e) in
       let n : length (rest s from) ≡ length s - p = ap length (rest-from s p from start) ∙ length-drop p s in
       let a = w .0 in
-      let b = w .1 in (omega arith, omega arith)
+      let b = w .1 in omega arith
 
 -- the empty line is written to any buffer, and none of its bytes changes
 none-written : (c next : Cursor) (old : List ℕ) → linedOutcome (record { answer = Written.Wrote 0; cursor = next }) old ≡ lineWritten [] c next old
@@ -59,14 +61,14 @@ module _ (a i p : ℕ) (s old : List ℕ) where
   module _ (from : ℕ) (start : from ≡ min p (length s)) (amount : Taken) (told : takenTells amount ≡ amountOf (rest s from))
       (h : i ≤ p) (answer : Written) (new : List ℕ) (lined : Lined) where
     -- a record stands there whole
-    pub record-went : (t : ℕ) → amount ≡ Taken.Took t → outcome answer new ≡ written (recordLine a i p (rest s from)) old
+    pub record-went : true ≡ isAge a → (t : ℕ) → amount ≡ Taken.Took t → outcome answer new ≡ recordLineOf a i p (rest s from) old
         → (lined .answer ≡ answer) × (lined .cursor ≡ cond (eqb (writtenTells answer .number) 0) (Cursor.Record (i + 1) (p + t)) here)
         → linedOutcome lined new ≡ came
     unfolding lineAt after
-    record-went t e o g =
+    record-went known t e o g =
         let w = took s p from start amount told t e in
         rw (le-ltb p i h, ← rest-from s p from start, took-whole (rest s from) _ _ t w, took-whole (rest s from) _ _ t w, ← took-says (rest s from) t w .0, ← add-one i)
-        (went _ old here _ answer new lined o g)
+        (went _ old here _ answer new lined (o ∙ gives a (rest s from) _ _ known t w) g)
 
     -- none does
     pub stop-went : (why : Refusal) (number : ℕ) → amount ≡ Taken.Refused why → number ≡ cond (eqb p (length s)) 0 (numberOf why)

@@ -17,9 +17,9 @@ use Rattle.ages.specs.Ages.{isAge}
 use Rattle.reading.specs.Reading.{reads, fieldBy, recordBy, aged, ifWhole, ifAge}
 use Rattle.marking.specs.Marks.{markOf, marksOf, heldBack}
 use Rattle.runs.specs.Runs.{offsetsIn, stopIn, reasonAt}
+use Rattle.shown.specs.Shown.{visible, escaped, escapedAll, shownWords, shownText, newline, recordLine}
 use Rattle.lines.specs.declared.Cursor.{Cursor}
-use Rattle.lines.specs.Shown.{visible, escaped, escapedAll, shownWords, shownText}
-use Rattle.lines.specs.Lines.{newline, ageLine, stopLine, recordLine, recordLines, lineAt, after, lineRefused, lineOf, listingOf}
+use Rattle.lines.specs.Lines.{ageLine, stopLine, recordLines, lineAt, after, lineRefused, lineOf, listingOf}
 
 -- 01's bytes: a record of 16, sixteen zeros, and three bytes more
 abbrev given : List ℕ
@@ -30,10 +30,6 @@ given =
 -- size 65, byte 64 is 1
 abbrev held : List ℕ
 held = 65 ∷ replicate 63 0 ++ (1 ∷ [])
-
--- language FF FF: a text of nine bytes past 0x7E
-abbrev strange : List ℕ
-strange = replicate 8 0 ++ (0xFF ∷ 0xFF ∷ replicate 6 0)
 
 pub examples :
     -- 01's four lines
@@ -52,13 +48,10 @@ pub examples :
     ∷ (ascii "1 65 0 BBBAAAAAAAAAAA %-" ++ newline)
     ∷ (ascii "stop 81 0" ++ newline)
     ∷ [])
-    -- bytes that can't be seen, in capital digits
-    × (recordLine 64 0 0 strange ≡ ascii "0 0 0 BFBAAAAAAAAAAA %EF%BF%BD%EF%BF%BD%EF%BF%BD" ++ newline)
-    × (escapedAll (ascii "a b%~" ++ (0x7F ∷ 0x00 ∷ [])) ≡ ascii "a%20b%25~%7F%00")
     -- 3 before 5; a call with a short buffer leaves its bytes and gives back its cursor, and one with room goes on
     × (lineOf 33 given Cursor.Start [] ≡ lineRefused Refusal.NotAnAge Cursor.Start [])
     × (lineOf 64 given (Cursor.Record 1 16) (replicate 24 7) ≡ lineRefused Refusal.ShortBuffer (Cursor.Record 1 16) (replicate 24 7))
     × (lineOf 64 given (Cursor.Record 1 16) (replicate 26 7)
     ≡ record { does = wrote (ascii "1 16 0 BBBAAAAAAAAAAA %-" ++ newline) (replicate 26 7); goes = Cursor.Record 2 32 })
 unfolding listingOf recordLines offsetsIn stopIn reasonAt lineOf lineAt after written ageLine stopLine recordLine shownText shownWords escapedAll escaped visible marksOf markOf heldBack isAge ifAge ifWhole aged recordBy fieldBy reads textOf placesOf sayAll say dashAfter localeWords newWords legacyWords unpacked subtagOf dropNuls keep replaced replacedBy frontOf okAt decimal digits
-examples = (refl, refl, refl, refl, refl, refl, refl, refl)
+examples = (refl, refl, refl, refl, refl, refl)

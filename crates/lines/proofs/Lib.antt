@@ -1,4 +1,3 @@
-pub mod Escapes
 pub mod Bounds
 pub mod Answers
 pub mod Cases

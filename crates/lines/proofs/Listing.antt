@@ -21,8 +21,9 @@ use Rattle.ages.proofs.Twelve.{age-bounds}
 use Rattle.reading.specs.Reading.{amountOf, taken, ifWhole}
 use Rattle.reading.proofs.Whole.{amounts, takes, refuses, whole-short, took-says, took-whole, refused-whole}
 use Rattle.runs.specs.Runs.{offsetsIn, stopIn, reasonAt}
+use Rattle.shown.specs.Shown.{recordLine}
 use Rattle.lines.specs.declared.Cursor.{Cursor}
-use Rattle.lines.specs.Lines.{ageLine, stopLine, recordLine, lineAt, after, lineOf, callsOf, cursorOf, recordLines, listingOf}
+use Rattle.lines.specs.Lines.{ageLine, stopLine, lineAt, after, lineOf, callsOf, cursorOf, recordLines, listingOf}
 use Rattle.lines.proofs.Bounds.{age-long, stop-long, whole-long}
 use Rattle.lines.proofs.Exactly.{line-given}
 

@@ -8,20 +8,11 @@ use Rattle.answers.specs.declared.Refusal.{Refusal}
 use Rattle.buffer.specs.Ascii.{ascii}
 use Rattle.buffer.specs.Decimal.{decimal}
 use Rattle.buffer.specs.Written.{Outcome, outcome, written, refused}
-use Rattle.reading.specs.Reading.{sizeOf, taken, ifWhole, ifAge}
-use Rattle.marking.specs.Marks.{marksOf}
+use Rattle.reading.specs.Reading.{taken, ifWhole, ifAge}
 use Rattle.runs.specs.Runs.{offsetsOf, stopOf, reasonAt}
+use Rattle.shown.specs.Shown.{newline, space, recordLine}
 use Rattle.lines.specs.declared.Cursor.{Cursor}
 use Rattle.lines.specs.declared.Lined.{Lined}
-use Rattle.lines.specs.Shown.{shownText}
-
--- each line is ended by one newline
-abbrev pub newline : List ℕ
-newline = 10 ∷ []
-
--- what stands between the parts of a line
-abbrev pub space : List ℕ
-space = ascii " "
 
 -- the first line has the age
 unfoldable pub ageLine : ℕ → List ℕ
@@ -30,11 +21,6 @@ ageLine a = ascii "age " ++ decimal a ++ newline
 -- the last line has the offset where the run stopped, and its number
 unfoldable pub stopLine : ℕ → ℕ → List ℕ
 stopLine p n = ascii "stop " ++ decimal p ++ space ++ decimal n ++ newline
-
--- the line of the record at the front of r, for a reader of age a: index, offset, declared size, marks in field order, text
-unfoldable pub recordLine : ℕ → ℕ → ℕ → List ℕ → List ℕ
-recordLine a i p r =
-    decimal i ++ space ++ decimal p ++ space ++ decimal (sizeOf r) ++ space ++ marksOf a r ++ space ++ shownText a r ++ newline
 
 -- the line at a cursor: at the start the age; at index i and place p the record that stands there whole, else the stop; none at
 -- the end, and none where an index is past its place, which is so in no listing

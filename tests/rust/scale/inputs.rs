@@ -44,8 +44,8 @@ const GO_TO: [Call; 16] = [
     Call::Write,
 ];
 
-/// Rooms that are large: at the longest text and the longest line, and far past both.
-const LARGE: [usize; 8] = [344, 345, 1065, 1066, 1067, 2048, 2048, 4096];
+/// Rooms that are large: at the longest text, at the longest line of a listing and of any record, and far past them.
+const LARGE: [usize; 8] = [344, 345, 1066, 1100, 1101, 1102, 2048, 4096];
 
 /// Ages that are none.
 const NO_AGES: [u32; 18] =

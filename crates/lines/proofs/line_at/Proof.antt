@@ -2,22 +2,14 @@
 use native.Mathlib.Omega.{arith}
 use denote.Ref.{now}
 use borrow.Author.Needs.{needs}
-use Rattle.lines.proofs.Cases.{past-place, took, within, record-went, stop-went}
+use Rattle.lines.proofs.Cases.{past-place, within, record-went, stop-went}
 use Rattle.lines.proofs.line_at.Statement.{statement}
 use Rattle.lines.proofs.line_at.Tie as tie
-
-record-line-requires : tie.Need-record-line-requires
-record-line-requires c κs = (
-  c .before .before .before .before .before .before .before .before .before .before .pre .0,
-  took (now (c .before .before .before .before .before .before .before .before .before .before .args .bytes)) (c .before .before .before .before .before .before .before .before .before .before .args .place) (c .before .before .before .before .before .before .lesser .result) (c .before .before .before .before .before .before .lesser .ensures) (c .before .before .before .before .amount .result) (c .before .before .before .before .amount .ensures) _ (c .before .before .t .given .1),
-  search needs,
-  within (now (c .before .before .before .before .before .before .before .before .before .before .args .bytes)) (c .before .before .before .before .before .before .before .before .before .before .args .place) (c .before .before .before .before .before .before .lesser .result) (c .before .before .before .before .before .before .lesser .ensures) (c .before .before .before .before .amount .result) (c .before .before .before .before .amount .ensures) _ (c .before .before .t .given .1) (c .before .before .before .before .before .before .before .before .before .before .pre .1) .0,
-)
 
 returns-2 : tie.Need-returns-2
 returns-2 c =
     record-went _ _ _ (now (c .before .before .before .before .before .before .before .before .before .before .before .before .before .before .args .bytes)) _ (c .before .before .before .before .before .before .before .before .before .before .lesser .result) (c .before .before .before .before .before .before .before .before .before .before .lesser .ensures) (c .before .before .before .before .before .before .before .before .amount .result) (c .before .before .before .before .before .before .before .before .amount .ensures) (search needs)
-    (c .before .before .before .record-line .result) _ (c .go-on .result) _ (c .before .before .before .before .before .before .t .given .1) (c .before .before .before .record-line .ensures) (c .go-on .ensures)
+    (c .before .before .before .record-line .result) _ (c .go-on .result) (c .before .before .before .before .before .before .before .before .before .before .before .before .before .before .pre .0) _ (c .before .before .before .before .before .before .t .given .1) (c .before .before .before .record-line .ensures) (c .go-on .ensures)
 
 returns-3 : tie.Need-returns-3
 returns-3 c =
@@ -30,9 +22,9 @@ line-at-spec =
     (tie.spec
     (λ c. past-place _ _ _ _ _ (search needs)) (λ c κs. search needs) (λ c. search needs) (λ c. search needs) (λ c. search needs) (λ c κs. search needs)
     (λ c. search needs)
-    record-line-requires
-    (λ c. omega (arith, within (now (c .before .before .before .before .before .before .before .before .before .before .before .before .before .args .bytes)) (c .before .before .before .before .before .before .before .before .before .before .before .before .before .args .place) (c .before .before .before .before .before .before .before .before .before .lesser .result) (c .before .before .before .before .before .before .before .before .before .lesser .ensures) (c .before .before .before .before .before .before .before .amount .result) (c .before .before .before .before .before .before .before .amount .ensures) _ (c .before .before .before .before .before .t .given .1) (c .before .before .before .before .before .before .before .before .before .before .before .before .before .pre .1) .1))
-    (λ c. omega (arith, within (now (c .before .before .before .before .before .before .before .before .before .before .before .before .before .args .bytes)) (c .before .before .before .before .before .before .before .before .before .before .before .before .before .args .place) (c .before .before .before .before .before .before .before .before .before .lesser .result) (c .before .before .before .before .before .before .before .before .before .lesser .ensures) (c .before .before .before .before .before .before .before .amount .result) (c .before .before .before .before .before .before .before .amount .ensures) _ (c .before .before .before .before .before .t .given .1) (c .before .before .before .before .before .before .before .before .before .before .before .before .before .pre .1) .1))
+    (λ c κs. search needs)
+    (λ c. omega (arith, within (now (c .before .before .before .before .before .before .before .before .before .before .before .before .before .args .bytes)) (c .before .before .before .before .before .before .before .before .before .before .before .before .before .args .place) (c .before .before .before .before .before .before .before .before .before .lesser .result) (c .before .before .before .before .before .before .before .before .before .lesser .ensures) (c .before .before .before .before .before .before .before .amount .result) (c .before .before .before .before .before .before .before .amount .ensures) _ (c .before .before .before .before .before .t .given .1) (c .before .before .before .before .before .before .before .before .before .before .before .before .before .pre .1)))
+    (λ c. omega (arith, within (now (c .before .before .before .before .before .before .before .before .before .before .before .before .before .args .bytes)) (c .before .before .before .before .before .before .before .before .before .before .before .before .before .args .place) (c .before .before .before .before .before .before .before .before .before .lesser .result) (c .before .before .before .before .before .before .before .before .before .lesser .ensures) (c .before .before .before .before .before .before .before .amount .result) (c .before .before .before .before .before .before .before .amount .ensures) _ (c .before .before .before .before .before .t .given .1) (c .before .before .before .before .before .before .before .before .before .before .before .before .before .pre .1)))
     (λ c κs. search needs) (λ c. search needs) (λ c κs. search needs) (λ c κs. search needs) (λ c κs. search needs) (λ c. search needs)
     returns-2
     (λ c. search needs)

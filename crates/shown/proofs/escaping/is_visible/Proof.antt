@@ -1,8 +1,8 @@
 -- Each way out gives what 01 says of the byte. Assumes nothing.
 use borrow.Author.Needs.{needs}
-use Rattle.lines.proofs.Escapes.{below, above, between}
-use Rattle.lines.proofs.shown.is_visible.Statement.{statement}
-use Rattle.lines.proofs.shown.is_visible.Tie as tie
+use Rattle.shown.proofs.Escapes.{below, above, between}
+use Rattle.shown.proofs.escaping.is_visible.Statement.{statement}
+use Rattle.shown.proofs.escaping.is_visible.Tie as tie
 
 pub is-visible-spec : {M : Type 1} → statement M
 is-visible-spec =

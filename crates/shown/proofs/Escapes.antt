@@ -12,7 +12,7 @@ use Rattle.answers.proofs.Says.{chosen}
 use Rattle.buffer.specs.Ascii.{ascii}
 use Rattle.buffer.specs.Put.{Put}
 use Rattle.buffer.proofs.Putting.{put-put, front-ends, front-take}
-use Rattle.lines.specs.Shown.{hexDigit, visible, escaped, escapedAll, shownWords}
+use Rattle.shown.specs.Shown.{hexDigit, visible, escaped, escapedAll, shownWords}
 
 -- the three tests of a visible byte
 pub below : (b : ℕ) → b < 0x21 → false ≡ visible b

@@ -6,7 +6,7 @@ use record::ResTableConfig;
 ghost use mathlib.Core.Path.{_≡_};
 ghost use Rattle.buffer.specs.Put.{Put};
 ghost use Rattle.places.specs.Places.{textOf};
-ghost use Rattle.lines.specs.Shown.{escaped, escapedAll, shownWords, visible};
+ghost use Rattle.shown.specs.Shown.{escaped, escapedAll, shownWords, visible};
 
 // Whether a byte stands in a line as it is.
 fn is_visible(b: u8) -> bool

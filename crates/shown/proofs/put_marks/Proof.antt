@@ -1,9 +1,9 @@
 -- The marks are written to a buffer of fourteen letters, and put from there. Assumes nothing.
 use mathlib.Core.Path.{refl}
 use borrow.Author.Needs.{needs}
-use Rattle.lines.proofs.Answers.{marks-fill}
-use Rattle.lines.proofs.put_marks.Statement.{statement}
-use Rattle.lines.proofs.put_marks.Tie as tie
+use Rattle.shown.proofs.Answers.{marks-fill}
+use Rattle.shown.proofs.put_marks.Statement.{statement}
+use Rattle.shown.proofs.put_marks.Tie as tie
 
 returns : tie.Need-returns
 returns c =

@@ -1,8 +1,8 @@
 -- The three numbers and their spaces are put in a row. Assumes nothing.
 use borrow.Author.Needs.{needs}
 use Rattle.buffer.proofs.Putting.{put-put}
-use Rattle.lines.proofs.put_numbers.Statement.{statement}
-use Rattle.lines.proofs.put_numbers.Tie as tie
+use Rattle.shown.proofs.put_numbers.Statement.{statement}
+use Rattle.shown.proofs.put_numbers.Tie as tie
 
 pub put-numbers-spec : {M : Type 1} → statement M
 put-numbers-spec =

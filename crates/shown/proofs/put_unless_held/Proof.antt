@@ -1,8 +1,8 @@
 -- What is put goes by the bytes that were looked at. Assumes nothing.
 use mathlib.Core.Path.{sym, _∙_}
 use borrow.Author.Needs.{needs}
-use Rattle.lines.proofs.put_unless_held.Statement.{statement}
-use Rattle.lines.proofs.put_unless_held.Tie as tie
+use Rattle.shown.proofs.put_unless_held.Statement.{statement}
+use Rattle.shown.proofs.put_unless_held.Tie as tie
 
 pub put-unless-held-spec : {M : Type 1} → statement M
 put-unless-held-spec =

@@ -2,9 +2,9 @@
 use mathlib.Core.Path.{sym, _∙_}
 use borrow.Author.Needs.{needs}
 use Rattle.buffer.proofs.Putting.{put-put}
-use Rattle.lines.proofs.Escapes.{escaped-same, escaped-hex}
-use Rattle.lines.proofs.shown.put_shown_byte.Statement.{statement}
-use Rattle.lines.proofs.shown.put_shown_byte.Tie as tie
+use Rattle.shown.proofs.Escapes.{escaped-same, escaped-hex}
+use Rattle.shown.proofs.escaping.put_shown_byte.Statement.{statement}
+use Rattle.shown.proofs.escaping.put_shown_byte.Tie as tie
 
 pub put-shown-byte-spec : {M : Type 1} → statement M
 put-shown-byte-spec =

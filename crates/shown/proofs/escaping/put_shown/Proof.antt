@@ -4,9 +4,9 @@ use lib.Seq.{length-take-le}
 use borrow.Author.Needs.{needs}
 use Rattle.buffer.proofs.Putting.{put-most}
 use Rattle.text.proofs.Long.{text-long}
-use Rattle.lines.proofs.Escapes.{shown-empty, shown-held}
-use Rattle.lines.proofs.shown.put_shown.Statement.{statement}
-use Rattle.lines.proofs.shown.put_shown.Tie as tie
+use Rattle.shown.proofs.Escapes.{shown-empty, shown-held}
+use Rattle.shown.proofs.escaping.put_shown.Statement.{statement}
+use Rattle.shown.proofs.escaping.put_shown.Tie as tie
 
 returns : tie.Need-returns
 returns c =

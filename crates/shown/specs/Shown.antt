@@ -1,12 +1,14 @@
--- 01, "The listing": how a line shows a text. Assumes nothing.
+-- 01, "The listing": the line of a record, how it shows a text, and a call for it. Assumes nothing.
 use Prim.Native.Nat.{ℕ, _/_, _%_}
 use mathlib.Core.List.{List, [], _∷_, _++_}
 use mathlib.Core.Bool.{Bool, cond, not, _&&_}
 use lib.Dec.{leb, eqb}
 use lib.ListN.{getD}
 use Rattle.buffer.specs.Ascii.{ascii}
-use Rattle.reading.specs.Reading.{aged}
-use Rattle.marking.specs.Marks.{letter, heldBack}
+use Rattle.buffer.specs.Decimal.{decimal}
+use Rattle.buffer.specs.Written.{Outcome, written, refused}
+use Rattle.reading.specs.Reading.{aged, sizeOf, ifWhole, ifAge}
+use Rattle.marking.specs.Marks.{letter, heldBack, marksOf}
 use Rattle.places.specs.Places.{textOf}
 
 -- the capital hexadecimal digits
@@ -38,3 +40,21 @@ shownWords (b ∷ w) = escapedAll (b ∷ w)
 -- the text of the record at the front of s for a reader of age a, as a line shows it; a held-back one is "%!"
 unfoldable pub shownText : ℕ → List ℕ → List ℕ
 shownText a s = cond (heldBack a s) (ascii "%!") (shownWords (textOf (aged a s)))
+
+-- each line is ended by one newline
+abbrev pub newline : List ℕ
+newline = 10 ∷ []
+
+-- what stands between the parts of a line
+abbrev pub space : List ℕ
+space = ascii " "
+
+-- the line of the record at the front of s, for a reader of age a: index, offset, declared size, marks in field order, text
+unfoldable pub recordLine : ℕ → ℕ → ℕ → List ℕ → List ℕ
+recordLine a i p s =
+    decimal i ++ space ++ decimal p ++ space ++ decimal (sizeOf s) ++ space ++ marksOf a s ++ space ++ shownText a s ++ newline
+
+-- a call for that line: 3, 1, 2, then 5
+abbrev pub recordLineOf : ℕ → ℕ → ℕ → List ℕ → List ℕ → Outcome
+recordLineOf a i p s old =
+    ifAge a (λ why. refused why old) (ifWhole s (λ why. refused why old) (written (recordLine a i p s) old))

@@ -7,10 +7,10 @@ use borrow.Author.Needs.{needs}
 use lib.ListN.{length, take}
 use Rattle.buffer.specs.Put.{Put}
 use Rattle.buffer.proofs.Putting.{put-nil}
-use Rattle.lines.specs.Shown.{escapedAll}
-use Rattle.lines.proofs.Escapes.{escaped-turn, escaped-all}
-use Rattle.lines.proofs.shown.put_escaped.Statement.{statement}
-use Rattle.lines.proofs.shown.put_escaped.Tie as tie
+use Rattle.shown.specs.Shown.{escapedAll}
+use Rattle.shown.proofs.Escapes.{escaped-turn, escaped-all}
+use Rattle.shown.proofs.escaping.put_escaped.Statement.{statement}
+use Rattle.shown.proofs.escaping.put_escaped.Tie as tie
 
 abbrev Inv-loop : tie.InvT-loop
 Inv-loop out₀ at text o₀ j₀ out o j = (j ≤ length text) × (length out ≡ length out₀) × Put out₀ at (escapedAll (take j text)) out o

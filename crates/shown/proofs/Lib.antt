@@ -1,0 +1,6 @@
+pub mod Escapes
+pub mod Bounds
+pub mod Answers
+pub mod OneOutcome
+pub mod Examples
+pub mod Newlines
