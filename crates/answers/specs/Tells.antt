@@ -1,6 +1,5 @@
 -- What each case of an answer tells in 01's numbers. Assumes nothing.
 use Prim.Native.Nat.{ℕ}
-use Rattle.answers.specs.declared.Refusal.{Refusal}
 use Rattle.answers.specs.declared.Told.{Told}
 use Rattle.answers.specs.declared.Taken.{Taken}
 use Rattle.answers.specs.declared.Written.{Written}

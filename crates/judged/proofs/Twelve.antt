@@ -1,7 +1,6 @@
 -- The twelve judged examples are as 01 asks. Assumes nothing.
-use Prim.Native.Nat.{ℕ}
 use mathlib.Core.Path.{_≡_, refl}
-use mathlib.Core.List.{List, [], _∷_, map}
+use mathlib.Core.List.{[], _∷_, map}
 use Rattle.buffer.specs.Decimal.{digits, decimal}
 use Rattle.buffer.specs.Written.{written}
 use Rattle.subtag.specs.Utf8.{okAt, frontOf}

@@ -15,7 +15,7 @@ use Rattle.subtag.proofs.Long.{subtag-long}
 use Rattle.language.proofs.Long.{language-long, region-long}
 use Rattle.record.specs.declared.ResTableConfig.{ResTableConfig}
 use Rattle.record.proofs.ResTableConfig as config
-use Rattle.locale.specs.Locale.{language, region, begins, hasRegion, scriptProvided, behind, legacyWords, newWords, localeWords, localeSaid, localeText}
+use Rattle.locale.specs.Locale.{region, begins, hasRegion, scriptProvided, behind, legacyWords, newWords, localeWords, localeSaid, localeText}
 
 behind-long : (there : Bool) (sign w : List ℕ) → length (behind there sign w) ≤ length sign + length w
 behind-long true sign w = omega (arith, length-append sign w)

@@ -7,14 +7,13 @@ use language::put_region;
 use record::ResTableConfig;
 use subtag::put_subtag;
 ghost use mathlib.Core.Path.{_≡_};
-ghost use mathlib.Core.Bool.{not, _||_};
-ghost use Prim.Native.Nat.{_≤_, _%_, _/_};
-ghost use lib.Dec.{eqb};
+ghost use mathlib.Core.Bool.{_||_};
+ghost use Prim.Native.Nat.{_%_, _/_};
 ghost use Rattle.buffer.specs.Ascii.{ascii};
 ghost use Rattle.buffer.specs.Put.{Put};
 ghost use Rattle.buffer.specs.Written.{outcome, written};
 ghost use Rattle.subtag.specs.Subtag.{subtagOf};
-ghost use Rattle.locale.specs.Locale.{language, region, begins, hasRegion, scriptProvided, behind, legacyWords, newWords, localeWords, localeSaid, localeText};
+ghost use Rattle.locale.specs.Locale.{language, region, begins, hasRegion, scriptProvided, behind, legacyWords, newWords, localeWords, localeText};
 
 // The record's language, put.
 fn put_own_language(out: &mut [u8], at: usize, r: ResTableConfig) -> usize

@@ -8,14 +8,12 @@ use locale::put_locale;
 use record::ResTableConfig;
 use words::put_words;
 ghost use mathlib.Core.Bool.{cond, true};
-ghost use mathlib.Core.List.{_∷_, [], _++_};
+ghost use mathlib.Core.List.{_∷_, []};
 ghost use lib.Dec.{ltb};
 ghost use Rattle.buffer.specs.Ascii.{ascii};
-ghost use Rattle.buffer.specs.Decimal.{decimal};
 ghost use Rattle.buffer.specs.Put.{Put};
 ghost use Rattle.locale.specs.Locale.{localeSaid, localeWords};
 ghost use Rattle.words.specs.Words.{wordsOf};
-ghost use Rattle.record.specs.Accessors.{screenWidthHeightOf, sdkMinorVersionOf};
 ghost use Rattle.places.specs.Say.{Says};
 ghost use Rattle.places.specs.Places.{labelPlace, dpPlace, pixelPlace, versionPlace, minorWords};
 

@@ -1,7 +1,7 @@
 -- Demand 3, as one theorem about what the calls return. Assumes nothing.
-use Prim.Native.Nat.{ℕ, _+_, _-_, _≤_, _<_}
-use mathlib.Core.Path.{_≡_, refl, sym, ap, _∙_}
-use mathlib.Core.Bool.{Bool, true, false}
+use Prim.Native.Nat.{ℕ, _-_, _≤_, _<_}
+use mathlib.Core.Path.{_≡_, sym, ap, _∙_}
+use mathlib.Core.Bool.{true, false}
 use mathlib.Core.List.{List}
 use native.Mathlib.Omega.{arith}
 use lib.Dec.{eqb}
@@ -12,7 +12,7 @@ use Rattle.answers.specs.Tells.{refusal}
 use Rattle.buffer.specs.Written.{wrote, refused}
 use Rattle.ages.specs.Ages.{isAge}
 use Rattle.record.specs.Table.{endOf}
-use Rattle.reading.specs.Reading.{parseOf, plain, taken}
+use Rattle.reading.specs.Reading.{parseOf, taken}
 use Rattle.reading.proofs.TwoAges.{Alike, aged-alike}
 use Rattle.marking.specs.Marks.{marksOutcome}
 use Rattle.places.specs.Places.{textOf}

@@ -4,10 +4,9 @@ use mathlib.Core.Path.{_≡_, refl}
 use mathlib.Core.List.{List, [], _∷_, _++_}
 use lib.ListN.{replicate}
 use Rattle.answers.specs.Tells.{success, refusal}
-use Rattle.record.specs.Blank.{blankRecord}
 use Rattle.ages.specs.Ages.{isAge}
 use Rattle.reading.specs.Reading.{ifAge, ifWhole}
-use Rattle.runs.specs.Runs.{offsetsIn, offsetsOf, stopIn, stopOf, reasonAt, runOf, stepOf, stepStays}
+use Rattle.runs.specs.Runs.{offsetsIn, offsetsOf, stopIn, reasonAt, runOf, stepOf, stepStays}
 
 -- 01's run: a record of 16 bytes, one of size 0, and three bytes
 abbrev pub run : List ℕ

@@ -2,10 +2,10 @@
 use Prim.Native.Nat.{ℕ, _+_, _-_, _≤_, _<_}
 use mathlib.Core.Path.{_≡_, refl, sym, ap, _∙_}
 use mathlib.Core.Bool.{Bool, true, false, cond}
-use mathlib.Core.List.{List, _++_}
+use mathlib.Core.List.{List}
 use native.Mathlib.Omega.{arith}
 use native.Mathlib.Decide.{decLe}
-use lib.ListN.{length, getD, drop, length-drop, List·getD-append}
+use lib.ListN.{length, getD, drop, List·getD-append}
 use Rattle.answers.specs.declared.Refusal.{Refusal}
 use Rattle.buffer.specs.Written.{Outcome, written, wrote, refused}
 use Rattle.buffer.proofs.Writing.{written-fits, written-short}

@@ -1,5 +1,5 @@
 -- The ways that a step goes. Assumes nothing.
-use Prim.Native.Nat.{ℕ, _+_, _≤_, min}
+use Prim.Native.Nat.{ℕ, _+_, min}
 use mathlib.Core.Path.{_≡_, sym, ap, _∙_}
 use mathlib.Core.Bool.{true, false}
 use mathlib.Core.List.{List}
@@ -7,15 +7,15 @@ use lib.ListN.{length, drop}
 use borrow.Author.Tests.{eq-eqb, ne-eqb}
 use Rattle.answers.specs.declared.Refusal.{Refusal}
 use Rattle.answers.specs.declared.Taken.{Taken}
-use Rattle.answers.specs.declared.Told.{Told}
 use Rattle.answers.specs.Numbers.{numberOf}
 use Rattle.answers.specs.Tells.{success, refusal, takenTells}
 use Rattle.ages.specs.Ages.{isAge}
 use Rattle.record.specs.declared.ResTableConfig.{ResTableConfig}
 use Rattle.reading.specs.declared.Parsed.{Parsed}
-use Rattle.reading.specs.Reading.{ParseOutcome, parsedOutcome, parseAged, parseRefused, parseTook, amountOf, aged, taken, ifWhole}
-use Rattle.reading.proofs.Whole.{age-known, age-unknown, whole-map, took-says, took-whole, refused-whole}
-use Rattle.runs.specs.Runs.{StepOutcome, stepOf, stepStays, stepFound}
+use Rattle.reading.specs.Reading.{ParseOutcome, parsedOutcome, parseAged, amountOf, aged, taken, ifWhole}
+use Rattle.reading.proofs.Exactly.{aged-tells}
+use Rattle.reading.proofs.Whole.{age-known, age-unknown, took-says, took-whole, refused-whole}
+use Rattle.runs.specs.Runs.{stepOf, stepStays, stepFound}
 use Rattle.runs.proofs.Rest.{rest, rest-from}
 
 -- 3 comes first
@@ -45,19 +45,13 @@ module _ (a : ℕ) (s : List ℕ) (p : ℕ) (known : true ≡ isAge a) where
     step-found n e =
         inside ∙ took-whole (drop p s) _ _ n e ∙ ap (λ (m : ℕ). stepFound (p + m) (aged a (drop p s))) (sym (took-says (drop p s) n e .0))
 
--- what parsing at an age tells is how many bytes the record takes
-tells-amount : (a : ℕ) (t : List ℕ) → true ≡ isAge a → parseAged a t .tells ≡ amountOf t
-tells-amount a t known =
-    ap (λ (o : ParseOutcome). o .tells) (age-known a _ _ known)
-    ∙ whole-map (λ (o : ParseOutcome). o .tells) t parseRefused (parseTook (taken t) (aged a t))
-
 -- the parse that a step rests on: of the bytes from place p on, of which the program hands on those from m
 module _ (a : ℕ) (s : List ℕ) (p m : ℕ) (known : true ≡ isAge a) (e : m ≡ min p (length s)) (q : Parsed) (parsed : parsedOutcome q ≡ parseAged a (rest s m)) where
   at-place : parsedOutcome q ≡ parseAged a (drop p s)
   at-place = parsed ∙ ap (parseAged a) (rest-from s p m e)
 
   told : takenTells (q .answer) ≡ amountOf (drop p s)
-  told = ap (λ (o : ParseOutcome). o .tells) at-place ∙ tells-amount a (drop p s) known
+  told = ap (λ (o : ParseOutcome). o .tells) at-place ∙ aged-tells a (drop p s) known
 
   pub parse-refused : (why : Refusal) → q .answer ≡ Taken.Refused why → refusal (numberOf why) ≡ amountOf (drop p s)
   parse-refused why h = rw h at told

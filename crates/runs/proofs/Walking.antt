@@ -1,5 +1,5 @@
 -- One turn of the walk at a time, and where it ends. Assumes nothing.
-use Prim.Native.Nat.{ℕ, zero, suc, _+_, _-_, _*_, _/_, _≤_, _<_}
+use Prim.Native.Nat.{ℕ, zero, suc, _+_, _-_, _*_, _≤_}
 use mathlib.Core.Path.{_≡_, refl, sym, ap, _∙_}
 use mathlib.Core.List.{List, [], _∷_}
 use native.Mathlib.Omega.{arith}
@@ -10,7 +10,7 @@ use Rattle.answers.specs.declared.Refusal.{Refusal}
 use Rattle.answers.specs.Numbers.{numberOf}
 use Rattle.answers.specs.declared.Taken.{Taken}
 use Rattle.answers.specs.Tells.{success, refusal, takenTells}
-use Rattle.reading.specs.Reading.{amountOf, taken}
+use Rattle.reading.specs.Reading.{amountOf}
 use Rattle.reading.proofs.Whole.{took-says, took-whole, refused-whole, whole-short}
 use Rattle.runs.specs.declared.RunEnd.{RunEnd}
 use Rattle.runs.specs.Runs.{offsetsIn, stopIn, most, reasonAt, runOf}

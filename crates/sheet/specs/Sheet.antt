@@ -1,7 +1,7 @@
 -- 01, "Text": the sheet of a record. Assumes nothing.
 use Prim.Native.Nat.{ℕ, _+_, _*_}
 use mathlib.Core.List.{List, [], _∷_, map}
-use mathlib.Core.Bool.{Bool, true, false, cond}
+use mathlib.Core.Bool.{Bool, cond}
 use lib.Dec.{eqb}
 use Rattle.kinds.specs.Input.{touchscreenOf, keysHiddenOf, keyboardOf, navHiddenOf, navigationOf}
 use Rattle.kinds.specs.Mode.{grammaticalGenderOf, uiModeOf, uiModeNightOf}

@@ -1,19 +1,19 @@
 -- A NUL at the end stands by itself: so a subtag with one is no longer than the replaced rest. Assumes nothing.
-use Prim.Native.Nat.{ℕ, zero, suc, _+_, _-_, _*_, _≤_, _<_}
-use mathlib.Core.Path.{_≡_, refl, sym, ap, _∙_, subst}
+use Prim.Native.Nat.{ℕ, zero, suc, _+_, _≤_, _<_}
+use mathlib.Core.Path.{_≡_, refl, sym, ap, _∙_}
 use mathlib.Core.Bool.{Bool, true, false, cond, _&&_}
 use mathlib.Core.List.{List, [], _∷_, _++_, append-assoc}
 use mathlib.Core.Option.{Option, none, some}
 use native.Mathlib.Omega.{arith}
 use native.Mathlib.Decide.{decLt}
-use lib.Dec.{ltb, eqb, lit≤}
-use lib.ListN.{length, getD, take, drop, length-append, length-drop, List·getD-append}
-use lib.Seq.{take-append-le, drop-append-le, length-take-le}
+use lib.Dec.{lit≤}
+use lib.ListN.{length, getD, drop, length-append, length-drop, List·getD-append}
+use lib.Seq.{take-append-le, drop-append-le}
 use borrow.Author.Tests.{lt-ltb, le-ltb, le-leb, lt-leb}
 use Rattle.subtag.specs.declared.utf8.Front.{Front}
 use Rattle.subtag.specs.Utf8.{table, rowOf, within, okAt, matched, judge, frontOf}
-use Rattle.subtag.specs.Subtag.{pieceOf, sizeOf, replaced, replacedBy, keep, dropNuls, subtagOf}
-use Rattle.subtag.proofs.Laws.{size-one, size-in, replaced-more, replaced-none}
+use Rattle.subtag.specs.Subtag.{pieceOf, sizeOf, replaced, replacedBy, dropNuls, subtagOf}
+use Rattle.subtag.proofs.Laws.{size-one, size-in, replaced-more}
 use Rattle.subtag.proofs.Nuls.{nul-last}
 
 and-false : (t : Bool) → (t && false) ≡ false

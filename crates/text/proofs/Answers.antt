@@ -1,25 +1,20 @@
 -- What a text call comes to, for each of its answers. Assumes nothing.
 use Prim.Native.Nat.{ℕ, _≤_}
-use mathlib.Core.Path.{_≡_, refl, sym, ap, _∙_}
-use mathlib.Core.Bool.{Bool, true, false, cond, not}
-use mathlib.Core.List.{List, []}
-use native.Mathlib.Omega.{arith}
-use lib.Dec.{leb}
+use mathlib.Core.Path.{_≡_, sym, ap, _∙_}
+use mathlib.Core.Bool.{Bool, true, false, cond}
+use mathlib.Core.List.{List}
 use lib.ListN.{length}
-use borrow.Author.Tests.{not-true, not-false}
 use Rattle.answers.specs.declared.Refusal.{Refusal}
 use Rattle.answers.specs.declared.Taken.{Taken}
 use Rattle.answers.specs.declared.Written.{Written}
-use Rattle.answers.specs.Numbers.{numberOf}
-use Rattle.answers.specs.Tells.{success, refusal, takenTells}
+use Rattle.answers.specs.Tells.{success, takenTells}
 use Rattle.buffer.specs.Put.{Put}
 use Rattle.buffer.specs.Written.{Outcome, outcome, written, refused}
 use Rattle.buffer.proofs.Putting.{front-ends}
 use Rattle.buffer.proofs.Writing.{put-written}
 use Rattle.ages.specs.Ages.{isAge}
-use Rattle.record.specs.declared.ResTableConfig.{ResTableConfig}
 use Rattle.reading.specs.declared.Parsed.{Parsed}
-use Rattle.reading.specs.Reading.{ParseOutcome, parsedOutcome, parseOf, parseAged, amountOf, plain, aged, taken, ifWhole, ifAge}
+use Rattle.reading.specs.Reading.{ParseOutcome, parsedOutcome, parseOf, parseAged, amountOf, plain, aged}
 use Rattle.reading.proofs.Whole.{age-known, age-unknown, took-says, took-whole, refused-whole}
 use Rattle.marking.specs.Marks.{lateBytes, heldBack}
 use Rattle.places.specs.Places.{textOf}

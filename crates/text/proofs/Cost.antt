@@ -1,16 +1,15 @@
 -- What each place adds to a text at the most. Assumes nothing.
-use Prim.Native.Nat.{ℕ, suc, _+_, _-_, _≤_, _<_}
-use mathlib.Core.Path.{_≡_, refl}
-use mathlib.Core.Bool.{Bool, true, false, cond, not}
+use Prim.Native.Nat.{ℕ, _+_, _-_, _≤_, _<_}
+use mathlib.Core.Bool.{Bool, true, false, cond}
 use mathlib.Core.List.{List, [], _∷_, _++_}
 use native.Mathlib.Omega.{arith}
 use lib.Bits.{bitAnd, and-le-r}
-use lib.Dec.{eqb, lit≤}
+use lib.Dec.{lit≤}
 use lib.ListN.{length, length-append}
 use Rattle.buffer.specs.Ascii.{ascii}
 use Rattle.buffer.specs.Decimal.{decimal}
 use Rattle.buffer.proofs.Digits.{decimal-long}
-use Rattle.kinds.proofs.Pick.{Each, pick-each}
+use Rattle.kinds.proofs.Pick.{pick-each}
 use Rattle.kinds.specs.Input.{touchscreens, touchscreenOf, keysHiddens, keysHiddenOf, keyboards, keyboardOf, navHiddens, navHiddenOf, navigations, navigationOf}
 use Rattle.kinds.specs.Mode.{grammaticalGenders, grammaticalGenderOf, uiModes, uiModeOf, uiModeNights, uiModeNightOf}
 use Rattle.kinds.specs.Screen.{layoutDirs, layoutDirOf, screenSizes, screenSizeOf, screenLongs, screenLongOf, screenRounds, screenRoundOf, wideColorGamuts, wideColorGamutOf, hdrs, hdrOf, orientations, orientationOf, densities, densityOf}
@@ -32,7 +31,7 @@ use Rattle.kinds.specs.declared.screen.ScreenRound.{ScreenRound}
 use Rattle.kinds.specs.declared.screen.ScreenSize.{ScreenSize}
 use Rattle.kinds.specs.declared.screen.WideColorGamut.{WideColorGamut}
 use Rattle.places.specs.Say.{Place, say, dashAfter, sayAll}
-use Rattle.places.specs.Places.{kindPlace, labelPlace, dpPlace, some, minorWords}
+use Rattle.places.specs.Places.{kindPlace, dpPlace, some}
 
 -- a place adds a dash and its words where it is said
 abbrev pub cost : Place → ℕ

@@ -1,7 +1,7 @@
 -- When the text for a reader of an age is shown, and when it is refused and with which number. Assumes nothing.
 use Prim.Native.Nat.{ℕ, _≤_, _<_}
 use mathlib.Core.Path.{_≡_, refl, sym, ap, subst, _∙_}
-use mathlib.Core.Bool.{Bool, true, false, cond}
+use mathlib.Core.Bool.{Bool, true, false}
 use mathlib.Core.List.{List}
 use native.Mathlib.Omega.{arith}
 use native.Mathlib.Decide.{decLe}
@@ -12,7 +12,7 @@ use Rattle.answers.proofs.Says.{pick}
 use Rattle.buffer.specs.Written.{Outcome, written, wrote, refused}
 use Rattle.buffer.proofs.Writing.{written-fits, written-short}
 use Rattle.ages.specs.Ages.{isAge}
-use Rattle.reading.specs.Reading.{plain, aged, taken, sizeOf}
+use Rattle.reading.specs.Reading.{plain, taken, sizeOf}
 use Rattle.reading.proofs.Whole.{front, short, cut, whole, age-known, whole-short, whole-cut, whole-took}
 use Rattle.marking.specs.Marks.{heldBack}
 use Rattle.places.specs.Places.{textOf}

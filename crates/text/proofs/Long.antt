@@ -1,10 +1,9 @@
 -- No text is longer than 344 bytes. Assumes nothing.
-use Prim.Native.Nat.{ℕ, _+_, _*_, _/_, _%_, _≤_, _<_}
-use mathlib.Core.Path.{_≡_, refl}
+use Prim.Native.Nat.{ℕ, _+_, _/_, _%_, _≤_, _<_}
 use mathlib.Core.List.{List, [], _∷_, _++_}
 use native.Mathlib.Omega.{arith}
 use borrow.Author.Needs.{needs}
-use lib.Dec.{eqb, lit≤}
+use lib.Dec.{eqb}
 use lib.ListN.{length, length-append}
 use mir.Val.{Val}
 use denote.Laws.{Is}
@@ -17,7 +16,7 @@ use Rattle.record.proofs.ResTableConfig as config
 use Rattle.locale.specs.Locale.{localeSaid, localeWords}
 use Rattle.locale.proofs.Long.{Sized, locale-long, sized}
 use Rattle.places.specs.Places.{some, minorWords, pixelPlace, versionPlace, placesOf, textOf}
-use Rattle.text.proofs.Cost.{cost, total, first-long, Within, sum, within-total, words-cost, label-cost, dp-cost, gender-cost, layout-dir-cost, screen-size-cost, screen-long-cost, screen-round-cost, wide-color-gamut-cost, hdr-cost, orientation-cost, ui-mode-cost, ui-mode-night-cost, density-cost, touchscreen-cost, keys-hidden-cost, keyboard-cost, nav-hidden-cost, navigation-cost}
+use Rattle.text.proofs.Cost.{cost, first-long, Within, within-total, words-cost, label-cost, dp-cost, gender-cost, layout-dir-cost, screen-size-cost, screen-long-cost, screen-round-cost, wide-color-gamut-cost, hdr-cost, orientation-cost, ui-mode-cost, ui-mode-night-cost, density-cost, touchscreen-cost, keys-hidden-cost, keyboard-cost, nav-hidden-cost, navigation-cost}
 
 -- what the type of a word says
 abbrev pub Word : ℕ → Type 0

@@ -5,7 +5,7 @@ use mathlib.Core.Bool.{Bool}
 use mathlib.Core.List.{List}
 use native.Mathlib.Omega.{arith}
 use native.Mathlib.Decide.{decLt}
-use lib.ListN.{length, getD, drop, replicate, length-take, length-replicate, drop-of-length-le}
+use lib.ListN.{length, drop, replicate, length-take, length-replicate, drop-of-length-le}
 use lib.Seq.{drop-cons}
 use Rattle.answers.proofs.Says.{chosen}
 use Rattle.record.specs.Table.{Bytes, part, le, startOf, widthOf}

@@ -1,5 +1,4 @@
 -- One of three is there. Assumes nothing.
-use borrow.Author.Needs.{needs}
 use Rattle.locale.proofs.is_new.Statement.{statement}
 use Rattle.locale.proofs.is_new.Tie as tie
 

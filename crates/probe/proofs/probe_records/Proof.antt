@@ -1,7 +1,6 @@
 -- The walk's count. Assumes nothing.
 use mathlib.Core.Path.{ap}
 use Rattle.runs.specs.declared.RunEnd.{RunEnd}
-use borrow.Author.Needs.{needs}
 use Rattle.probe.proofs.probe_records.Statement.{statement}
 use Rattle.probe.proofs.probe_records.Tie as tie
 

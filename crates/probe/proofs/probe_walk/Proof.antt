@@ -1,7 +1,6 @@
 -- The walk's stop and number, packed. Assumes nothing.
 use mathlib.Core.Path.{ap, _∙_}
 use Rattle.probe.specs.Probe.{endPacked}
-use borrow.Author.Needs.{needs}
 use Rattle.probe.proofs.probe_walk.Statement.{statement}
 use Rattle.probe.proofs.probe_walk.Tie as tie
 

@@ -1,8 +1,4 @@
 -- A step that finds nothing gives a record that holds nothing. Assumes nothing.
-use mathlib.Core.Path.{ap}
-use Rattle.record.specs.declared.ResTableConfig.{ResTableConfig}
-use Rattle.runs.specs.Runs.{stepTells, StepOutcome}
-use borrow.Author.Needs.{needs}
 use Rattle.runs.proofs.stays.Statement.{statement}
 use Rattle.runs.proofs.stays.Tie as tie
 

@@ -1,6 +1,5 @@
 -- Silent when 0. Assumes nothing.
 use borrow.Author.Tests.{eq-eqb, ne-eqb}
-use borrow.Author.Needs.{needs}
 use Rattle.sheet.proofs.network_code.Statement.{statement}
 use Rattle.sheet.proofs.network_code.Tie as tie
 

@@ -1,7 +1,6 @@
 -- Each field is as it is defined. Assumes nothing.
 use Rattle.sheet.specs.Sheet.{sheetOf}
 use Rattle.sheet.proofs.Made.{made, same}
-use borrow.Author.Needs.{needs}
 use Rattle.sheet.proofs.sheet_of.Statement.{statement}
 use Rattle.sheet.proofs.sheet_of.Tie as tie
 

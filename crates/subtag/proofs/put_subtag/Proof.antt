@@ -1,8 +1,7 @@
 -- `put_subtag` puts what is left without the NULs at the end. Assumes nothing.
-use mathlib.Core.Path.{sym, _∙_, ap}
+use mathlib.Core.Path.{sym}
 use borrow.Author.Needs.{needs}
 use lib.Seq.{length-take-le}
-use Rattle.subtag.specs.Subtag.{replaced}
 use Rattle.subtag.proofs.Strip.{subtag-is}
 use Rattle.subtag.proofs.put_subtag.Statement.{statement}
 use Rattle.subtag.proofs.put_subtag.Tie as tie

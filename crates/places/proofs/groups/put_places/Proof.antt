@@ -1,7 +1,6 @@
 -- The groups in a row. Assumes nothing.
 use Rattle.places.proofs.Laws.{says-both}
 use Rattle.places.specs.Places.{placesOf}
-use borrow.Author.Needs.{needs}
 use Rattle.places.proofs.groups.put_places.Statement.{statement}
 use Rattle.places.proofs.groups.put_places.Tie as tie
 

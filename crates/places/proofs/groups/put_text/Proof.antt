@@ -1,7 +1,6 @@
 -- All places from an empty text on. Assumes nothing.
 use Rattle.places.proofs.Laws.{said-all}
 use Rattle.places.specs.Places.{textOf}
-use borrow.Author.Needs.{needs}
 use Rattle.places.proofs.groups.put_text.Statement.{statement}
 use Rattle.places.proofs.groups.put_text.Tie as tie
 

@@ -1,5 +1,4 @@
 -- `front_of_two` judges by a row with one more byte. Assumes nothing.
-use borrow.Author.Tests.{not-true, not-false}
 use Rattle.subtag.proofs.Rows.{told}
 use borrow.Author.Needs.{needs}
 use Rattle.subtag.proofs.utf8.front_of_two.Statement.{statement}
