@@ -1,5 +1,5 @@
 -- What each case of an answer tells in 01's numbers. Assumes nothing.
-use Prim.Native.Nat.{ℕ}
+use Prim.Native.Nat.{ℕ, _+_, _*_, _%_}
 use Rattle.answers.specs.declared.Told.{Told}
 use Rattle.answers.specs.declared.Taken.{Taken}
 use Rattle.answers.specs.declared.Written.{Written}
@@ -22,3 +22,7 @@ takenTells (Taken.Refused why) = refusal (numberOf why)
 abbrev pub writtenTells : Written → Told
 writtenTells (Written.Wrote n) = success n
 writtenTells (Written.Refused why) = refusal (numberOf why)
+
+-- what is told as one number: the number times 2^32, and the lower 32 bits of the amount
+abbrev pub packedOf : Told → ℕ
+packedOf t = t .number * 4294967296 + t .amount % 4294967296

@@ -1,7 +1,7 @@
 // What every call of the library answers: a success with its amount, or a refusal with 01's number.
 ghost use mathlib.Core.Path.{_≡_};
 ghost use Rattle.answers.specs.Numbers.{numberOf};
-ghost use Rattle.answers.specs.Tells.{refusal, takenTells, writtenTells};
+ghost use Rattle.answers.specs.Tells.{packedOf, refusal, takenTells, writtenTells};
 
 // Why a call is refused.
 pub enum Refusal {
@@ -63,6 +63,15 @@ impl Refusal {
             number: self.number(),
             amount: 0,
         }
+    }
+}
+
+impl Told {
+    // What is told as one number: the number times 2^32, and the lower 32 bits of the amount.
+    pub fn packed(self) -> u64
+        ensures { λ r. ⌜ r ≡ packedOf self ⌝ }
+    {
+        self.number as u64 * 4294967296 + self.amount as u64 % 4294967296
     }
 }
 

@@ -3,8 +3,8 @@ use Prim.Native.Nat.{ℕ, _<_}
 use mathlib.Core.Path.{_≡_, sym, ap, _∙_}
 use native.Mathlib.Omega.{arith}
 use Rattle.answers.specs.declared.Told.{Told}
-use Rattle.answers.specs.Tells.{success}
-use Rattle.intake.specs.Intake.{packedOf, answerTells}
+use Rattle.answers.specs.Tells.{success, packedOf}
+use Rattle.intake.specs.Intake.{answerTells}
 
 told-same : (m n k l : ℕ) → m ≡ n → k ≡ l → _≡_ {A = Told} (record { number = m; amount = k }) (record { number = n; amount = l })
 told-same m n k l p q = cc

@@ -1,5 +1,5 @@
 -- The C entry points: what an answer tells, and what the order of two records given as bytes tells. Assumes nothing.
-use Prim.Native.Nat.{ℕ, _+_, _*_, _/_, _%_}
+use Prim.Native.Nat.{ℕ, _/_, _%_}
 use mathlib.Core.List.{List}
 use Rattle.answers.specs.declared.Told.{Told}
 use Rattle.answers.specs.Numbers.{numberOf}
@@ -7,10 +7,6 @@ use Rattle.answers.specs.Tells.{success, refusal}
 use Rattle.buffer.specs.Written.{Outcome}
 use Rattle.order.specs.Order.{orderOf, orderingTells}
 use Rattle.reading.specs.Reading.{plain, ifWhole}
-
--- what a call tells, as one number: number times 2^32, and the amount
-abbrev pub packedOf : Told → ℕ
-packedOf t = t .number * 4294967296 + t .amount
 
 -- what an answer tells: the number is in its upper half, the amount in its lower one
 abbrev pub answerTells : ℕ → Told

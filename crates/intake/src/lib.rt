@@ -23,12 +23,12 @@ fn are_bytes(bytes: &[u8])
     ensures { λ _. ⌜ Bytes (now (bytes .entry)) ⌝ }
 {}
 
-// What a call tells as one number.
+// What a call tells as one number, from which it comes back.
 fn packed(told: Told) -> u64
     requires { ⌜ told .amount < 4294967296 ⌝ }
     ensures { λ r. ⌜ answerTells r ≡ told ⌝ }
 {
-    told.number as u64 * 4294967296 + told.amount as u64
+    told.packed()
 }
 
 // How many bytes the record at the front of bytes takes.

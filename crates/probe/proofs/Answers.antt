@@ -7,7 +7,7 @@ use Rattle.answers.specs.declared.Refusal.{Refusal}
 use Rattle.answers.specs.declared.Taken.{Taken}
 use Rattle.answers.specs.declared.Told.{Told}
 use Rattle.answers.specs.declared.Written.{Written}
-use Rattle.answers.specs.Tells.{success, takenTells, writtenTells}
+use Rattle.answers.specs.Tells.{success, takenTells, writtenTells, packedOf}
 use Rattle.buffer.specs.Written.{Outcome, outcome, refused}
 use Rattle.record.specs.declared.ResTableConfig.{ResTableConfig}
 use Rattle.record.specs.Blank.{withSize}
@@ -19,7 +19,7 @@ use Rattle.reading.proofs.Whole.{took-whole, refused-whole}
 use Rattle.writing.specs.Writing.{writeOf}
 use Rattle.lines.specs.declared.Lined.{Lined}
 use Rattle.lines.specs.Lines.{LineOutcome, linedOutcome}
-use Rattle.probe.specs.Probe.{packedOf, Comes, cursorPacked, writeSized}
+use Rattle.probe.specs.Probe.{Comes, cursorPacked, writeSized}
 
 -- the record of a parse is the one that its outcome gives
 gives : (p : Parsed) (o : ParseOutcome) → parsedOutcome p ≡ o → p .«record» ≡ o .gives

@@ -1,18 +1,14 @@
 -- What the probes answer: what a call tells, a cursor and a run's end, each as one number, and the writer at another size. Assumes nothing.
-use Prim.Native.Nat.{ℕ, _+_, _*_, _%_}
+use Prim.Native.Nat.{ℕ, _%_}
 use mathlib.Core.Path.{_≡_}
 use mathlib.Core.List.{List}
-use Rattle.answers.specs.declared.Told.{Told}
+use Rattle.answers.specs.Tells.{packedOf}
 use Rattle.buffer.specs.Written.{Outcome, refused}
 use Rattle.record.specs.Blank.{withSize}
 use Rattle.reading.specs.Reading.{ifWhole, plain}
 use Rattle.writing.specs.Writing.{writeOf}
 use Rattle.runs.specs.declared.RunEnd.{RunEnd}
 use Rattle.lines.specs.declared.Cursor.{Cursor}
-
--- what a call tells, as one number: its number times 2^32, and the lower 32 bits of the amount
-abbrev pub packedOf : Told → ℕ
-packedOf t = t .number * 4294967296 + t .amount % 4294967296
 
 -- an answer and a lent buffer are what an outcome tells, packed, and leaves
 abbrev pub Comes : ℕ → List ℕ → Outcome → Type 0

@@ -23,7 +23,7 @@ ghost use Rattle.record.specs.Blank.{blankRecord, withSize};
 ghost use Rattle.order.specs.Order.{equalOf, orderOf, orderingTells};
 ghost use Rattle.runs.specs.Runs.{runOf};
 ghost use Rattle.text.specs.Text.{plainText};
-ghost use Rattle.probe.specs.Probe.{Comes, cursorPacked, endPacked, packedOf, writeSized};
+ghost use Rattle.probe.specs.Probe.{Comes, cursorPacked, endPacked, writeSized};
 
 // Whether the record that parsing bytes gives equals the one that holds nothing: so every field of it is looked at.
 #[no_mangle]
@@ -59,23 +59,19 @@ pub extern "C" fn probe_order(a: &[u8], b: &[u8]) -> u32
     order.number()
 }
 
-// What a call tells as one number: its number times 2^32, and the lower 32 bits of the amount.
-fn packed(told: Told) -> u64
-    ensures { λ r. ⌜ r ≡ packedOf told ⌝ }
-{
-    told.number as u64 * 4294967296 + told.amount as u64 % 4294967296
-}
-
 // A cursor as one number: a record's place under its index, or one of the two greatest.
 fn cursor_packed(cursor: Cursor) -> u64
     ensures { λ r. ⌜ r ≡ cursorPacked cursor ⌝ }
 {
     match cursor {
         Cursor::Start => 18446744073709551614,
-        Cursor::Record { index, place } => packed(Told {
-            number: (index % 4294967296) as u32,
-            amount: place,
-        }),
+        Cursor::Record { index, place } => {
+            let told = Told {
+                number: (index % 4294967296) as u32,
+                amount: place,
+            };
+            told.packed()
+        }
         Cursor::End => 18446744073709551615,
     }
 }
@@ -87,7 +83,7 @@ pub extern "C" fn probe_first_line(bytes: &[u8], age: u32, out: &mut [u8]) -> u6
 {
     let lined = line(bytes, Age(age), first(), out);
     let answer = lined.answer;
-    packed(answer.told())
+    answer.told().packed()
 }
 
 // Writes the line of the record of an index at a place in a listing of bytes at an age, or where none stands there the last one.
@@ -103,7 +99,7 @@ pub extern "C" fn probe_line(
 {
     let lined = line(bytes, Age(age), Cursor::Record { index, place }, out);
     let answer = lined.answer;
-    packed(answer.told())
+    answer.told().packed()
 }
 
 // Writes that line too, and answers where the listing goes on.
@@ -129,10 +125,11 @@ pub extern "C" fn probe_walk(bytes: &[u8], place: usize) -> u64
     ensures { λ r. ⌜ r ≡ endPacked (runOf (now (bytes .entry)) place) ⌝ }
 {
     let end = walk(bytes, place);
-    packed(Told {
+    let told = Told {
         number: end.number,
         amount: end.stop,
-    })
+    };
+    told.packed()
 }
 
 // How many records the run of bytes that begins at a place has.
@@ -172,5 +169,5 @@ pub extern "C" fn probe_write(bytes: &[u8], size: u32, out: &mut [u8]) -> u64
     ensures { λ r. ⌜ Comes r (now (out .exit)) (writeSized (now (bytes .entry)) size (now (out .entry))) ⌝ }
 {
     let answer = write_sized(bytes, size, out);
-    packed(answer.told())
+    answer.told().packed()
 }

@@ -1,6 +1,7 @@
--- Number and amount come back from the sum. Assumes nothing.
+-- Number and amount come back from the packed number. Assumes nothing.
+use mathlib.Core.Path.{ap, _∙_}
+use Rattle.intake.specs.Intake.{answerTells}
 use Rattle.intake.proofs.Packing.{unpacked}
-use borrow.Author.Needs.{needs}
 use Rattle.intake.proofs.packed.Statement.{statement}
 use Rattle.intake.proofs.packed.Tie as tie
 
@@ -8,5 +9,5 @@ pub packed-spec : {M : Type 1} → statement M
 packed-spec =
     tie.close
     (tie.spec
-    (λ c. search needs) (λ c. search needs) (λ c. search needs)
-    (λ c. unpacked (c .before .args .told) (c .before .pre)))
+    (λ c κs. tt)
+    (λ c. ap answerTells (c .packed .ensures) ∙ unpacked (c .before .args .told) (c .before .pre)))
