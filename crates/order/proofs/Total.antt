@@ -151,7 +151,3 @@ eq-keys a b e = equal-keys a b (is-equal (orderOf a b) (sym (eq-cmp a b) ∙ e))
 -- and to no other
 pub keys-eq : (a b : ResTableConfig) → key a ≡ key b → equalOf a b ≡ true
 keys-eq a b e = eq-cmp a b ∙ ap isEqual (keys-equal a b e)
-
--- the order o that `cmp` answers tells whether the records are equal
-pub told-equal : (a b : ResTableConfig) (r o : Ordering) → r ≡ orderOf a b → r ≡ o → isEqual o ≡ equalOf a b
-told-equal a b r o e f = ap isEqual (sym f ∙ e) ∙ sym (eq-cmp a b)

@@ -1,9 +1,9 @@
-// The order of two records, which answers at the first field that differs, and their equality.
+// The order of two records and their equality: each answers at the first field that differs.
 use record::ResTableConfig;
 ghost use mathlib.Core.Path.{_≡_};
 ghost use Prim.Native.Nat.{_*_, _+_, _<_};
 ghost use Rattle.record.specs.Table.{bit};
-ghost use Rattle.order.specs.Order.{equalOf, laterKey, lex, numberOrder, orderOf, orderingTells};
+ghost use Rattle.order.specs.Order.{agree, equalOf, laterKey, lex, numberOrder, orderOf, orderingTells};
 ghost use Rattle.order.specs.Packed.{Packed};
 
 // How a first record stands to a second.
@@ -150,6 +150,36 @@ fn later_order(a: ResTableConfig, b: ResTableConfig) -> Ordering
     Ordering::Equal
 }
 
+// Whether the fields from `locale_script` on agree.
+fn later_agree(a: ResTableConfig, b: ResTableConfig) -> bool
+    ensures { λ r. ⌜ r ≡ agree (laterKey a) (laterKey b) ⌝ }
+{
+    let x = script(a);
+    let y = script(b);
+    if x != y {
+        return false;
+    }
+    let x = variant(a);
+    let y = variant(b);
+    if x != y {
+        return false;
+    }
+    if a.screen_config_2 != b.screen_config_2 {
+        return false;
+    }
+    let x = bit_of(a.locale_script_was_computed);
+    let y = bit_of(b.locale_script_was_computed);
+    if x != y {
+        return false;
+    }
+    let x = numbering_system(a);
+    let y = numbering_system(b);
+    if x != y {
+        return false;
+    }
+    padding(a) == padding(b)
+}
+
 // The order of two records: the fourteen fields after size, in table order.
 pub fn cmp(a: ResTableConfig, b: ResTableConfig) -> Ordering
     ensures { λ r. ⌜ r ≡ orderOf a b ⌝ }
@@ -181,13 +211,33 @@ pub fn cmp(a: ResTableConfig, b: ResTableConfig) -> Ordering
     later_order(a, b)
 }
 
-// Whether the fourteen fields after size agree, which is so where neither record comes first.
+// Whether the fourteen fields after size agree.
 pub fn eq(a: ResTableConfig, b: ResTableConfig) -> bool
     ensures { λ r. ⌜ r ≡ equalOf a b ⌝ }
 {
-    match cmp(a, b) {
-        Ordering::Less => false,
-        Ordering::Equal => true,
-        Ordering::Greater => false,
+    if a.imsi != b.imsi {
+        return false;
     }
+    if a.locale != b.locale {
+        return false;
+    }
+    if a.screen_type != b.screen_type {
+        return false;
+    }
+    if a.generic_purpose_field != b.generic_purpose_field {
+        return false;
+    }
+    if a.screen_size != b.screen_size {
+        return false;
+    }
+    if a.version != b.version {
+        return false;
+    }
+    if a.screen_config != b.screen_config {
+        return false;
+    }
+    if a.screen_size_dp != b.screen_size_dp {
+        return false;
+    }
+    later_agree(a, b)
 }
