@@ -6,16 +6,17 @@ use lib.Dec.{lit<, lit≤}
 use lib.ListN.{getD}
 use Rattle.answers.specs.declared.Refusal.{Refusal}
 use Rattle.answers.specs.declared.Taken.{Taken}
+use Rattle.answers.specs.declared.Told.{Told}
 use Rattle.answers.specs.declared.Written.{Written}
 use Rattle.answers.specs.Numbers.{numberOf}
 use Rattle.answers.specs.Tells.{takenTells, writtenTells}
 
 -- what has a way back is one-to-one
-one-to-one : {A B : Type 0} (f : A → B) (back : B → A) → ((a : A) → back (f a) ≡ a) → (a b : A) → f a ≡ f b → a ≡ b
+pub one-to-one : {A B : Type 0} (f : A → B) (back : B → A) → ((a : A) → back (f a) ≡ a) → (a b : A) → f a ≡ f b → a ≡ b
 one-to-one f back there a b e = sym (there a) ∙ ap back e ∙ there b
 
 -- the refusals by their numbers, from 1
-refusals : List Refusal
+unfoldable pub refusals : List Refusal
 refusals =
     Refusal.FewerThan16
     ∷ Refusal.FewerThanSize
@@ -27,11 +28,12 @@ refusals =
     ∷ []
 
 -- the way back from a number and an amount, for an answer that is ok of its amount or bad of a refusal
-back : {A : Type 0} → (ℕ → A) → (Refusal → A) → ℕ → ℕ → A
+unfoldable pub back : {A : Type 0} → (ℕ → A) → (Refusal → A) → ℕ → ℕ → A
 back ok bad zero amount = ok amount
 back ok bad (suc k) amount = bad (getD refusals k Refusal.FewerThan16)
 
-refused-back : {A : Type 0} (ok : ℕ → A) (bad : Refusal → A) (why : Refusal) → back ok bad (numberOf why) 0 ≡ bad why
+-- a refusal comes back from its number
+pub refused-back : {A : Type 0} (ok : ℕ → A) (bad : Refusal → A) (why : Refusal) → back ok bad (numberOf why) 0 ≡ bad why
 unfolding back refusals
 refused-back ok bad Refusal.FewerThan16 = refl
 refused-back ok bad Refusal.FewerThanSize = refl
@@ -40,6 +42,11 @@ refused-back ok bad Refusal.HeldBack = refl
 refused-back ok bad Refusal.ShortBuffer = refl
 refused-back ok bad Refusal.UnreadField = refl
 refused-back ok bad Refusal.TooMuchInput = refl
+
+-- answers that come back from what they tell are one where they tell the same
+pub tells-one : {A : Type 0} (tells : A → Told) (ok : ℕ → A) (bad : Refusal → A)
+    → ((a : A) → back ok bad (tells a .number) (tells a .amount) ≡ a) → (a b : A) → tells a ≡ tells b → a ≡ b
+tells-one tells ok bad there = one-to-one tells (λ t. back ok bad (t .number) (t .amount)) there
 
 taken-back : (a : Taken) → back Taken.Took Taken.Refused (takenTells a .number) (takenTells a .amount) ≡ a
 unfolding back
@@ -75,8 +82,8 @@ number-one = one-to-one numberOf (λ n. back (λ m. Refusal.FewerThan16) (λ why
 
 -- two answers of calls that take bytes, telling the same, are one
 pub taken-one : (a b : Taken) → takenTells a ≡ takenTells b → a ≡ b
-taken-one = one-to-one takenTells (λ t. back Taken.Took Taken.Refused (t .number) (t .amount)) taken-back
+taken-one = tells-one takenTells Taken.Took Taken.Refused taken-back
 
 -- two answers of calls that write, telling the same, are one
 pub written-one : (a b : Written) → writtenTells a ≡ writtenTells b → a ≡ b
-written-one = one-to-one writtenTells (λ t. back Written.Wrote Written.Refused (t .number) (t .amount)) written-back
+written-one = tells-one writtenTells Written.Wrote Written.Refused written-back

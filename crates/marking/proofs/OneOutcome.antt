@@ -1,13 +1,12 @@
 -- Any two outcomes that a contract of this crate allows for the same input are one. Assumes nothing.
-use Prim.Native.Nat.{ℕ}
-use mathlib.Core.Path.{_≡_, refl, sym, ap, _∙_}
+use Prim.Native.Nat.{ℕ, zero, suc}
+use mathlib.Core.Path.{_≡_, refl, sym, _∙_}
 use mathlib.Core.Bool.{Bool}
 use mathlib.Core.List.{List}
-use native.Mathlib.Omega.{arith}
 use Rattle.answers.specs.declared.Told.{Told}
 use Rattle.answers.specs.declared.Written.{Written}
 use Rattle.answers.proofs.OneOutcome.{one-answer}
-use Rattle.answers.proofs.OneToOne.{number-one, number-pos}
+use Rattle.answers.proofs.OneToOne.{back, refused-back, tells-one}
 use Rattle.buffer.specs.Written.{outcome}
 use Rattle.buffer.proofs.OneOutcome.{one-outcome}
 use Rattle.marking.specs.declared.Held.{Held}
@@ -18,27 +17,21 @@ pub one-marks : (a : ℕ) (bytes old : List ℕ) (r s : Written) (x y : List ℕ
     → outcome r x ≡ marksOutcome a bytes old → outcome s y ≡ marksOutcome a bytes old → (r ≡ s) × (x ≡ y)
 one-marks a bytes old r s x y p q = one-outcome p q
 
-number : {t u : Told} → t ≡ u → t .number ≡ u .number
-number e = ap (λ (t : Told). t .number) e
+-- the answer of an amount
+answered : ℕ → Held
+answered zero = Held.No
+answered (suc n) = Held.Yes
 
-amount : {t u : Told} → t ≡ u → t .amount ≡ u .amount
-amount e = ap (λ (t : Told). t .amount) e
-
--- two answers that tell the same are one
-held-one : (r s : Held) → heldTells r ≡ heldTells s → r ≡ s
-held-one Held.No Held.No e = refl
-held-one Held.Yes Held.Yes e = refl
-held-one (Held.Refused v) (Held.Refused w) e = ap Held.Refused (number-one v w (number e))
-held-one Held.No Held.Yes e = absurd (let z = amount e in omega arith)
-held-one Held.Yes Held.No e = absurd (let z = amount e in omega arith)
-held-one Held.No (Held.Refused w) e = absurd (let z = number e in omega (arith, number-pos w))
-held-one Held.Yes (Held.Refused w) e = absurd (let z = number e in omega (arith, number-pos w))
-held-one (Held.Refused v) Held.No e = absurd (let z = number e in omega (arith, number-pos v))
-held-one (Held.Refused v) Held.Yes e = absurd (let z = number e in omega (arith, number-pos v))
+-- each answer comes back from what it tells
+held-back : (r : Held) → back answered Held.Refused (heldTells r .number) (heldTells r .amount) ≡ r
+unfolding back answered
+held-back Held.No = refl
+held-back Held.Yes = refl
+held-back (Held.Refused why) = refused-back answered Held.Refused why
 
 -- of `held_back`: the answer is fixed
 pub one-held : {t : Told} (r s : Held) → heldTells r ≡ t → heldTells s ≡ t → r ≡ s
-one-held r s p q = held-one r s (p ∙ sym q)
+one-held r s p q = tells-one heldTells answered Held.Refused held-back r s (p ∙ sym q)
 
 -- of `late_bytes` and of `told`: the answer is its definition's value at the input
 pub one-late : (s : List ℕ) (n a : ℕ) (r t : Bool) → r ≡ lateBytes s n a → t ≡ lateBytes s n a → r ≡ t

@@ -1,12 +1,13 @@
 -- What an order tells fixes the order. Assumes nothing.
 use Prim.Native.Nat.{ℕ, zero, suc}
-use mathlib.Core.Path.{_≡_, refl, sym, ap, _∙_}
+use mathlib.Core.Path.{_≡_, refl}
+use Rattle.answers.proofs.OneToOne.{one-to-one}
 use Rattle.order.specs.Order.{orderingTells}
 use Rattle.order.specs.declared.Ordering.{Ordering}
 
 -- two orders with one number are one
 pub tells-one : (o p : Ordering) → orderingTells o ≡ orderingTells p → o ≡ p
-tells-one o p e = sym (there o) ∙ (ap back e ∙ there p)
+tells-one = one-to-one orderingTells back there
   where
     back : ℕ → Ordering
     back zero = Ordering.Less

@@ -1,13 +1,12 @@
 -- Any two outcomes that a contract of this crate allows for the same input are one. Assumes nothing.
-use Prim.Native.Nat.{ℕ}
+use Prim.Native.Nat.{ℕ, zero, suc}
 use mathlib.Core.Path.{_≡_, refl, sym, ap, _∙_}
 use mathlib.Core.List.{List}
-use native.Mathlib.Omega.{arith}
 use lib.ListN.{drop}
 use Rattle.answers.specs.declared.Told.{Told}
 use Rattle.answers.specs.declared.Written.{Written}
 use Rattle.answers.proofs.OneOutcome.{one-answer}
-use Rattle.answers.proofs.OneToOne.{number-one, number-pos}
+use Rattle.answers.proofs.OneToOne.{back, refused-back, tells-one}
 use Rattle.buffer.specs.Written.{outcome}
 use Rattle.buffer.proofs.OneOutcome.{one-outcome}
 use Rattle.record.specs.declared.ResTableConfig.{ResTableConfig}
@@ -18,23 +17,21 @@ use Rattle.runs.specs.declared.Stepped.{Stepped}
 use Rattle.runs.specs.declared.RunEnd.{RunEnd}
 use Rattle.runs.specs.Runs.{StepOutcome, stepOutcome, stepTells, stepOf, runOf}
 
-number : {t u : Told} → t ≡ u → t .number ≡ u .number
-number e = ap (λ (t : Told). t .number) e
+-- the answer of an amount
+answered : ℕ → Step
+answered zero = Step.Ended
+answered (suc n) = Step.Found
 
-amount : {t u : Told} → t ≡ u → t .amount ≡ u .amount
-amount e = ap (λ (t : Told). t .amount) e
+-- each answer comes back from what it tells
+step-back : (r : Step) → back answered Step.Refused (stepTells r .number) (stepTells r .amount) ≡ r
+unfolding back answered
+step-back Step.Found = refl
+step-back Step.Ended = refl
+step-back (Step.Refused why) = refused-back answered Step.Refused why
 
 -- two answers that tell the same are one
 step-one : (r s : Step) → stepTells r ≡ stepTells s → r ≡ s
-step-one Step.Found Step.Found e = refl
-step-one Step.Ended Step.Ended e = refl
-step-one (Step.Refused v) (Step.Refused w) e = ap Step.Refused (number-one v w (number e))
-step-one Step.Found Step.Ended e = absurd (let z = amount e in omega arith)
-step-one Step.Ended Step.Found e = absurd (let z = amount e in omega arith)
-step-one Step.Found (Step.Refused w) e = absurd (let z = number e in omega (arith, number-pos w))
-step-one Step.Ended (Step.Refused w) e = absurd (let z = number e in omega (arith, number-pos w))
-step-one (Step.Refused v) Step.Found e = absurd (let z = number e in omega (arith, number-pos v))
-step-one (Step.Refused v) Step.Ended e = absurd (let z = number e in omega (arith, number-pos v))
+step-one = tells-one stepTells answered Step.Refused step-back
 
 stepped-same : {a b : Step} {n m : ℕ} {r s : ResTableConfig} → a ≡ b → n ≡ m → r ≡ s
     → _≡_ {A = Stepped} (record { answer = a; next = n; «record» = r }) (record { answer = b; next = m; «record» = s })
