@@ -1,12 +1,13 @@
-//! Lists the records of a file, end to end: index, offset, bytes taken, and the text or why it is refused. With an age, the text
-//! is that for a reader of the age. The last line has the offset where the list stopped, and why if bytes are left.
+//! Lists the records of a file, end to end: index, offset, bytes taken, and the text or why it is refused. The text is that for a
+//! reader of the age, 64 where none is given; with `plain` it is the plain text, of records that are held back too. The last line
+//! has the offset where the list stopped, and why if bytes are left.
 //!
-//!   cargo run --example list FILE [AGE]
+//!   cargo run --example list FILE [AGE|plain]
 
 use res_table_config::{aged_text, take, text, TEXT_MOST};
 use std::{env, fs, process};
 
-/// The lines of a run of records.
+/// The lines of a run of records for a reader of an age, or with the plain text.
 pub fn lines(run: &[u8], age: Option<u32>) -> String {
     let mut list = String::new();
     let (mut index, mut offset) = (0, 0);
@@ -34,9 +35,13 @@ pub fn lines(run: &[u8], age: Option<u32>) -> String {
 #[allow(dead_code)]
 fn main() {
     let words: Vec<String> = env::args().skip(1).collect();
-    let age = words.get(1).map(|age| age.parse());
-    let (Some(file), Ok(age)) = (words.first(), age.transpose()) else {
-        eprintln!("usage: list FILE [AGE]");
+    let age = match words.get(1).map(String::as_str) {
+        None => Ok(Some(64)),
+        Some("plain") => Ok(None),
+        Some(age) => age.parse().map(Some),
+    };
+    let (Some(file), Ok(age)) = (words.first(), age) else {
+        eprintln!("usage: list FILE [AGE|plain]");
         process::exit(2);
     };
     match fs::read(file) {
