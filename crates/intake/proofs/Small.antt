@@ -14,7 +14,7 @@ use Rattle.answers.proofs.OneToOne.{number-most}
 use Rattle.answers.proofs.Says.{chosen}
 use Rattle.buffer.specs.Written.{Outcome, written}
 use Rattle.order.specs.declared.Ordering.{Ordering}
-use Rattle.ages.specs.Ages.{isAge}
+use Rattle.record.specs.Ages.{isAge}
 use Rattle.order.specs.Order.{orderOf, orderingTells}
 use Rattle.record.specs.Table.{Bytes}
 use Rattle.reading.specs.Reading.{ifWhole, ifAge, amountOf, plain, aged, taken}

@@ -2,12 +2,12 @@
 //
 // Each answers one number: 01's number times 2^32, and the amount. So a success is below 2^32, and a refusal has amount 0.
 // A refusal changes no lent byte. Ages arrive as plain numbers.
-use ages::Age;
 use answers::Told;
 use marking::marks;
 use order::cmp;
 use reading::amount;
 use reading::parse;
+use record::Age;
 use text::aged_text;
 use text::plain_text;
 ghost use mathlib.Core.Path.{_≡_};

@@ -5,7 +5,7 @@ use Rattle.buffer.specs.Decimal.{digits, decimal}
 use Rattle.buffer.specs.Written.{written}
 use Rattle.subtag.specs.Utf8.{okAt, frontOf}
 use Rattle.subtag.specs.Subtag.{replacedBy, replaced, keep, dropNuls, subtagOf}
-use Rattle.ages.specs.Ages.{isAge}
+use Rattle.record.specs.Ages.{isAge}
 use Rattle.reading.specs.Reading.{reads, fieldBy, recordBy, plain, aged, ifWhole, ifAge}
 use Rattle.marking.specs.Marks.{heldBack}
 use Rattle.language.specs.Language.{unpacked}

@@ -15,7 +15,7 @@ use Rattle.answers.specs.Numbers.{numberOf}
 use Rattle.answers.specs.Tells.{success, refusal, takenTells, writtenTells}
 use Rattle.buffer.specs.Written.{outcome, written}
 use Rattle.buffer.proofs.Writing.{written-fits}
-use Rattle.ages.specs.Ages.{isAge}
+use Rattle.record.specs.Ages.{isAge}
 use Rattle.reading.specs.Reading.{amountOf}
 use Rattle.reading.proofs.Whole.{age-known, age-unknown, took-says, took-whole, refused-whole}
 use Rattle.marking.proofs.Answering.{gives}

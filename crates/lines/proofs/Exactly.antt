@@ -13,7 +13,7 @@ use Rattle.answers.specs.Tells.{success}
 use Rattle.answers.proofs.Says.{pick}
 use Rattle.buffer.specs.Written.{wrote}
 use Rattle.buffer.proofs.Writing.{written-fits, written-short}
-use Rattle.ages.specs.Ages.{isAge}
+use Rattle.record.specs.Ages.{isAge}
 use Rattle.lines.specs.declared.Cursor.{Cursor}
 use Rattle.lines.specs.Lines.{LineOutcome, lineAt, after, lineRefused, lineOf}
 use Rattle.lines.proofs.Cases.{too-much, no-age, at-age}

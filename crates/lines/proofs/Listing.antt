@@ -16,8 +16,8 @@ use Rattle.answers.proofs.Says.{chosen}
 use Rattle.buffer.specs.Written.{Outcome, wrote}
 use Rattle.buffer.proofs.Digits.{decimal-long}
 use Rattle.record.specs.Table.{Bytes}
-use Rattle.ages.specs.Ages.{isAge}
-use Rattle.ages.proofs.Twelve.{age-bounds}
+use Rattle.record.specs.Ages.{isAge}
+use Rattle.record.proofs.Twelve.{age-bounds}
 use Rattle.reading.specs.Reading.{amountOf, taken, ifWhole}
 use Rattle.reading.proofs.Whole.{amounts, takes, refuses, whole-short, took-says, took-whole, refused-whole}
 use Rattle.runs.specs.Runs.{offsetsIn, stopIn, reasonAt}

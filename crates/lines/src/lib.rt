@@ -1,5 +1,4 @@
 // The lines of a listing, one at a time in a lent buffer. Each call looks only at the record at its cursor.
-use ages::Age;
 use answers::Refusal;
 use answers::Taken;
 use answers::Written;
@@ -9,6 +8,7 @@ use buffer::put_decimal;
 use buffer::write;
 use reading::amount;
 use reading::lesser;
+use record::Age;
 use shown::record_line;
 ghost use mathlib.Core.Path.{_≡_};
 ghost use mathlib.Core.Bool.{true, cond};
@@ -18,7 +18,7 @@ ghost use lib.ListN.{length};
 ghost use Rattle.answers.specs.Numbers.{numberOf};
 ghost use Rattle.answers.specs.Tells.{writtenTells};
 ghost use Rattle.buffer.specs.Written.{outcome, written};
-ghost use Rattle.ages.specs.Ages.{isAge};
+ghost use Rattle.record.specs.Ages.{isAge};
 ghost use Rattle.lines.specs.Lines.{after, ageLine, lineAt, lineOf, lineWritten, linedOutcome, stopLine};
 
 // Where a listing goes on.

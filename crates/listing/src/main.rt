@@ -1,6 +1,5 @@
 // Prints the listing of standard input, read as a run at age 64. Where a read fails it says so on standard error and prints
 // nothing.
-use ages::Age;
 use answers::Refusal;
 use answers::Written;
 use libc::STDIN_FILENO;
@@ -9,6 +8,7 @@ use lines::age_line;
 use lines::first;
 use lines::line;
 use lines::stop_line;
+use record::Age;
 ghost use Rattle.io.specs.Counts.{Counts};
 
 // How many bytes were read, and whether a read failed.

@@ -6,7 +6,7 @@ use mathlib.Core.List.{List}
 use Rattle.answers.specs.declared.Refusal.{Refusal}
 use Rattle.answers.specs.Numbers.{numberOf}
 use Rattle.answers.specs.Tells.{success, refusal}
-use Rattle.ages.specs.Ages.{isAge}
+use Rattle.record.specs.Ages.{isAge}
 use Rattle.reading.specs.Reading.{ifWhole, ifAge, amountOf}
 use Rattle.reading.proofs.Whole.{age-known, took-says, took-whole, refused-whole}
 use Rattle.marking.specs.Marks.{lateBytes, heldBack, heldOf}

@@ -7,7 +7,7 @@ use Rattle.answers.specs.declared.Refusal.{Refusal}
 use Rattle.answers.specs.Tells.{success, refusal}
 use Rattle.buffer.specs.Ascii.{ascii}
 use Rattle.buffer.specs.Written.{written, wrote, refused}
-use Rattle.ages.specs.Ages.{isAge}
+use Rattle.record.specs.Ages.{isAge}
 use Rattle.reading.specs.Reading.{reads, ifWhole, ifAge}
 use Rattle.marking.specs.Marks.{markOf, marksOf, marksOutcome, heldBack, heldOf}
 

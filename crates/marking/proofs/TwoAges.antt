@@ -10,9 +10,9 @@ use lib.Dec.{T, leb}
 use lib.ListN.{length, replicate, length-replicate, getD-replicate, length-drop}
 use lib.Seq.{ext-getD, getD-take, getD-drop, length-take-le}
 use borrow.Author.Tests.{le-leb, lt-leb, le-ltb, leb-true}
-use Rattle.ages.specs.Ages.{isAge}
+use Rattle.record.specs.Ages.{isAge}
 use Rattle.record.specs.Table.{part, startOf, endOf, widthOf}
-use Rattle.ages.proofs.Twelve.{test-ages}
+use Rattle.record.proofs.Twelve.{test-ages}
 use Rattle.reading.specs.Reading.{reads, readsAt, fieldBy, plain, aged, sizeOf, taken}
 use Rattle.reading.proofs.Rows.{passes, in-row}
 use Rattle.reading.proofs.FieldBytes.{record-fields}

@@ -1,5 +1,4 @@
 // The marks of a record's fields, and whether a reader of an age holds the record back.
-use ages::Age;
 use answers::Refusal;
 use answers::Taken;
 use answers::Told;
@@ -7,6 +6,7 @@ use answers::Written;
 use buffer::write;
 use reading::amount;
 use reading::lesser;
+use record::Age;
 use record::ENDS;
 use record::STARTS;
 ghost use mathlib.Core.Path.{_≡_};

@@ -1,5 +1,4 @@
 // What the benchmark and the comparison at scale call of the port beyond the C face, each from bytes and answering one number.
-use ages::Age;
 use answers::Taken;
 use answers::Told;
 use answers::Written;
@@ -10,6 +9,7 @@ use order::cmp;
 use order::eq;
 use reading::amount;
 use reading::parse;
+use record::Age;
 use record::ResTableConfig;
 use record::blank;
 use runs::walk;

@@ -5,7 +5,7 @@ use mathlib.Core.Path.{_≡_}
 use mathlib.Core.List.{List}
 use denote.Ref.{RefT, now}
 use Rattle.answers.proofs.OneOutcome.{one-answer}
-use Rattle.ages.specs.declared.Age.{Age}
+use Rattle.record.specs.declared.ages.Age.{Age}
 use Rattle.runs.specs.declared.Stepped.{Stepped}
 use Rattle.reader.specs.declared.RunReader.{RunReader}
 use Rattle.reader.specs.Reader.{readerAt, readerOf}

@@ -26,9 +26,9 @@ use denote.Slice.{ShrSlice, slice-vals, shr-slice-tells, shr-slice-lawful}
 use denote.Struct.Declared.{Declared, row}
 use denote.Struct.Laws as LL
 use denote.Struct.Rest.{own-open, own-shut}
-use Rattle.ages.specs.declared.Age.{Age}
-use Rattle.ages.proofs.Age as G
-use Rattle.ages.proofs.Age.Laws as G′
+use Rattle.record.specs.declared.ages.Age.{Age}
+use Rattle.record.proofs.ages.Age as G
+use Rattle.record.proofs.ages.Age.Laws as G′
 use Rattle.reader.specs.declared.RunReader.{RunReader}
 use Rattle.runs.specs.declared.Stepped.{Stepped}
 use Rattle.reader.specs.Reader.{readerAt}

@@ -8,7 +8,7 @@ use lib.ListN.{length}
 use denote.Ref.{RefT, now}
 use Rattle.answers.specs.declared.Refusal.{Refusal}
 use Rattle.answers.specs.Tells.{refusal}
-use Rattle.ages.specs.Ages.{isAge}
+use Rattle.record.specs.Ages.{isAge}
 use Rattle.reader.specs.declared.RunReader.{RunReader}
 use Rattle.reader.specs.Reader.{readerOf}
 use Rattle.runs.specs.Runs.{stepOf, stepStays}

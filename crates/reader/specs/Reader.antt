@@ -2,7 +2,7 @@
 use Prim.Native.Nat.{ℕ}
 use mathlib.Core.List.{List}
 use denote.Ref.{RefT}
-use Rattle.ages.specs.declared.Age.{Age}
+use Rattle.record.specs.declared.ages.Age.{Age}
 use Rattle.reader.specs.declared.RunReader.{RunReader}
 
 -- a reader of the lent bytes b at place p, of age a

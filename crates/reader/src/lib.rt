@@ -1,5 +1,5 @@
 // The run reader: a struct that holds the lent bytes, its place and its age, over the covered step of runs.
-use ages::Age;
+use record::Age;
 use runs::Stepped;
 use runs::step_at;
 ghost use mathlib.Core.Path.{_≡_};

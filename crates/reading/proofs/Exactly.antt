@@ -6,7 +6,7 @@ use mathlib.Core.List.{List}
 use lib.Dec.{eqb}
 use lib.ListN.{length}
 use Rattle.answers.proofs.Says.{pick}
-use Rattle.ages.specs.Ages.{isAge}
+use Rattle.record.specs.Ages.{isAge}
 use Rattle.reading.specs.Reading.{ParseOutcome, parseOf, parseAged, amountOf, sizeOf, taken}
 use Rattle.reading.proofs.Whole.{front, short, cut, whole, whole-map, whole-short, whole-cut, whole-took, age-known, age-unknown}
 

@@ -4,7 +4,7 @@ use mathlib.Core.Path.{_≡_, refl}
 use mathlib.Core.List.{List, [], _∷_, _++_}
 use lib.ListN.{replicate}
 use Rattle.answers.specs.Tells.{success, refusal}
-use Rattle.ages.specs.Ages.{isAge}
+use Rattle.record.specs.Ages.{isAge}
 use Rattle.record.specs.Blank.{blankRecord}
 use Rattle.reading.specs.Reading.{reads, fieldBy, recordBy, plain, aged, ifWhole, ifAge, parseOf, parseAged, amountOf}
 

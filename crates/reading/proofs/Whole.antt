@@ -13,7 +13,7 @@ use Rattle.answers.specs.declared.Told.{Told}
 use Rattle.answers.specs.Numbers.{numberOf}
 use Rattle.answers.specs.Tells.{success, refusal}
 use Rattle.answers.proofs.OneToOne.{number-one, number-pos}
-use Rattle.ages.specs.Ages.{isAge}
+use Rattle.record.specs.Ages.{isAge}
 use Rattle.reading.specs.Reading.{ifWhole, ifAge, sizeOf, taken, amountOf}
 
 -- what stands at the front of some bytes: too few for any record, a record that is cut, or one that is whole

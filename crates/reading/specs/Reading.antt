@@ -9,7 +9,7 @@ use Rattle.answers.specs.declared.Told.{Told}
 use Rattle.answers.specs.Numbers.{numberOf}
 use Rattle.answers.specs.Tells.{success, refusal, takenTells}
 use Rattle.record.specs.declared.ResTableConfig.{ResTableConfig}
-use Rattle.ages.specs.Ages.{isAge}
+use Rattle.record.specs.Ages.{isAge}
 use Rattle.record.specs.Blank.{blankRecord}
 use Rattle.record.specs.Table.{startOf, endOf, widthOf, part, le, allZero}
 use Rattle.reading.specs.declared.Parsed.{Parsed}

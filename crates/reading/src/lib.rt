@@ -1,9 +1,9 @@
 // Parsing: the record at the front of some bytes, plain or as a reader of an age reads it.
 mod fields;
 
-use ages::Age;
 use answers::Refusal;
 use answers::Taken;
+use record::Age;
 use record::ResTableConfig;
 use record::blank;
 ghost use mathlib.Core.Path.{_≡_};

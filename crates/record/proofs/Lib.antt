@@ -1,1 +1,4 @@
+pub mod Among
 pub mod Ends
+pub mod OneOutcome
+pub mod Twelve

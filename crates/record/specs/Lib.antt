@@ -1,3 +1,4 @@
 pub mod Accessors
+pub mod Ages
 pub mod Blank
 pub mod Table

@@ -1,5 +1,6 @@
-// The record and its field table.
+// The record, its field table, and the ages of its readers.
 mod accessors;
+mod ages;
 
 pub use accessors::KeyboardNavigationInputFlags;
 pub use accessors::MccMnc;
@@ -9,6 +10,7 @@ pub use accessors::ScreenLayoutUiSmallestWidth;
 pub use accessors::ScreenWidthHeight;
 pub use accessors::ScreenWidthHeightDp;
 pub use accessors::SdkMinorVersion;
+pub use ages::Age;
 ghost use mathlib.Core.Path.{_≡_};
 ghost use Rattle.record.specs.Blank.{blankRecord};
 ghost use Rattle.record.specs.Table.{endOf, startOf};

@@ -10,7 +10,7 @@ use Rattle.answers.specs.declared.Refusal.{Refusal}
 use Rattle.answers.specs.declared.Told.{Told}
 use Rattle.answers.specs.Tells.{refusal}
 use Rattle.buffer.specs.Written.{wrote, refused}
-use Rattle.ages.specs.Ages.{isAge}
+use Rattle.record.specs.Ages.{isAge}
 use Rattle.record.specs.Table.{endOf}
 use Rattle.reading.specs.Reading.{parseOf, taken}
 use Rattle.reading.proofs.TwoAges.{Alike, aged-alike}

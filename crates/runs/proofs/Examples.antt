@@ -4,7 +4,7 @@ use mathlib.Core.Path.{_≡_, refl}
 use mathlib.Core.List.{List, [], _∷_, _++_}
 use lib.ListN.{replicate}
 use Rattle.answers.specs.Tells.{success, refusal}
-use Rattle.ages.specs.Ages.{isAge}
+use Rattle.record.specs.Ages.{isAge}
 use Rattle.reading.specs.Reading.{ifAge, ifWhole}
 use Rattle.runs.specs.Runs.{offsetsIn, offsetsOf, stopIn, reasonAt, runOf, stepOf, stepStays}
 

@@ -11,7 +11,7 @@ use Rattle.answers.specs.declared.Refusal.{Refusal}
 use Rattle.answers.specs.declared.Told.{Told}
 use Rattle.answers.specs.Numbers.{numberOf}
 use Rattle.answers.specs.Tells.{success, refusal}
-use Rattle.ages.specs.Ages.{isAge}
+use Rattle.record.specs.Ages.{isAge}
 use Rattle.reading.specs.Reading.{amountOf}
 use Rattle.reading.proofs.Whole.{amounts, takes, refuses}
 use Rattle.runs.specs.Runs.{StepOutcome, stepOf, offsetsIn, stopIn, offsetsOf, stopOf, most, reasonAt}

@@ -9,7 +9,7 @@ use lib.ListN.{length, getD, drop, List·getD-append}
 use Rattle.answers.specs.declared.Refusal.{Refusal}
 use Rattle.buffer.specs.Written.{Outcome, written, wrote, refused}
 use Rattle.buffer.proofs.Writing.{written-fits, written-short}
-use Rattle.ages.specs.Ages.{isAge}
+use Rattle.record.specs.Ages.{isAge}
 use Rattle.record.specs.Table.{endOf}
 use Rattle.reading.specs.Reading.{ParseOutcome, parseOf, plain, aged, taken}
 use Rattle.reading.proofs.Whole.{whole-took, age-known, took-is}

@@ -1,5 +1,4 @@
 // Runs of records, end to end: a step at a place, the walk to where a run stops, and the calls at a place.
-use ages::Age;
 use answers::Refusal;
 use answers::Taken;
 use answers::Told;
@@ -8,6 +7,7 @@ use marking::marks;
 use reading::amount;
 use reading::lesser;
 use reading::parse_aged;
+use record::Age;
 use record::ResTableConfig;
 use record::blank;
 use text::aged_text;

@@ -17,8 +17,8 @@ use Rattle.buffer.specs.Decimal.{decimal}
 use Rattle.buffer.specs.Written.{Outcome, outcome, written, refused}
 use Rattle.buffer.proofs.Writing.{written-fits}
 use Rattle.record.specs.declared.ResTableConfig.{ResTableConfig}
-use Rattle.ages.specs.Ages.{isAge}
-use Rattle.ages.proofs.Twelve.{age-bounds}
+use Rattle.record.specs.Ages.{isAge}
+use Rattle.record.proofs.Twelve.{age-bounds}
 use Rattle.reading.specs.declared.Parsed.{Parsed}
 use Rattle.reading.specs.Reading.{ParseOutcome, parsedOutcome, parseAged, amountOf, reads, fieldBy, recordBy, aged, sizeOf, taken}
 use Rattle.reading.proofs.Exactly.{aged-tells}

@@ -1,7 +1,6 @@
 // A record as a line of the listing shows it.
 mod escaping;
 
-use ages::Age;
 use answers::Taken;
 use answers::Written;
 use buffer::put;
@@ -12,6 +11,7 @@ use escaping::put_shown;
 use marking::late_bytes;
 use marking::marks;
 use reading::parse_aged;
+use record::Age;
 use record::ResTableConfig;
 ghost use mathlib.Core.Path.{_≡_};
 ghost use mathlib.Core.Bool.{true, cond};
@@ -23,7 +23,7 @@ ghost use Rattle.buffer.specs.Ascii.{ascii};
 ghost use Rattle.buffer.specs.Decimal.{decimal};
 ghost use Rattle.buffer.specs.Put.{Put};
 ghost use Rattle.buffer.specs.Written.{outcome, written};
-ghost use Rattle.ages.specs.Ages.{isAge};
+ghost use Rattle.record.specs.Ages.{isAge};
 ghost use Rattle.reading.specs.Reading.{aged, amountOf, taken};
 ghost use Rattle.marking.specs.Marks.{lateBytes, marksOf};
 ghost use Rattle.places.specs.Places.{textOf};

@@ -12,7 +12,7 @@ use Rattle.buffer.specs.Put.{Put}
 use Rattle.buffer.specs.Written.{Outcome, outcome, written, refused}
 use Rattle.buffer.proofs.Putting.{front-ends}
 use Rattle.buffer.proofs.Writing.{put-written}
-use Rattle.ages.specs.Ages.{isAge}
+use Rattle.record.specs.Ages.{isAge}
 use Rattle.reading.specs.declared.Parsed.{Parsed}
 use Rattle.reading.specs.Reading.{ParseOutcome, parsedOutcome, parseOf, parseAged, amountOf, plain, aged}
 use Rattle.reading.proofs.Whole.{age-known, age-unknown, took-says, took-whole, refused-whole}

@@ -11,7 +11,7 @@ use Rattle.answers.specs.declared.Refusal.{Refusal}
 use Rattle.answers.proofs.Says.{pick}
 use Rattle.buffer.specs.Written.{Outcome, written, wrote, refused}
 use Rattle.buffer.proofs.Writing.{written-fits, written-short}
-use Rattle.ages.specs.Ages.{isAge}
+use Rattle.record.specs.Ages.{isAge}
 use Rattle.reading.specs.Reading.{plain, taken, sizeOf}
 use Rattle.reading.proofs.Whole.{front, short, cut, whole, age-known, whole-short, whole-cut, whole-took}
 use Rattle.marking.specs.Marks.{heldBack}

@@ -5,7 +5,7 @@ use mathlib.Core.Bool.{true, false}
 use mathlib.Core.List.{List}
 use lib.ListN.{length}
 use Rattle.record.specs.declared.ResTableConfig.{ResTableConfig}
-use Rattle.ages.specs.Ages.{isAge}
+use Rattle.record.specs.Ages.{isAge}
 use Rattle.record.specs.Blank.{withSize}
 use Rattle.reading.specs.Reading.{taken, plain, aged}
 use Rattle.marking.specs.Marks.{heldBack}

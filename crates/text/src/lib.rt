@@ -1,5 +1,4 @@
 // The text of a record: of a parsed one, of bytes, and of bytes for a reader of some age.
-use ages::Age;
 use answers::Refusal;
 use answers::Taken;
 use answers::Written;
@@ -9,6 +8,7 @@ use places::put_text;
 use reading::amount;
 use reading::parse;
 use reading::parse_aged;
+use record::Age;
 use record::ResTableConfig;
 ghost use mathlib.Core.Path.{_≡_};
 ghost use Rattle.buffer.specs.Written.{outcome, written};

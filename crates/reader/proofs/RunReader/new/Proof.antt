@@ -23,8 +23,8 @@ use denote.Plain.{uint-makes}
 use denote.Slice.{slice-vals}
 use denote.Struct.Laws as LL
 use denote.Triple.Entry.{Args, onEntry}
-use Rattle.ages.proofs.Age as G
-use Rattle.ages.proofs.Age.Laws as G′
+use Rattle.record.proofs.ages.Age as G
+use Rattle.record.proofs.ages.Age.Laws as G′
 use Rattle.reader.specs.declared.RunReader.{RunReader}
 use Rattle.reader.specs.Reader.{readerOf}
 use Rattle.reader.proofs.ByHand.{Ensures, Quiet, Knowns, Walk, leaves, var, sets, gone, kept}

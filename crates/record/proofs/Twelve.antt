@@ -7,7 +7,7 @@ use native.Mathlib.Omega.{arith}
 use lib.Dec.{eqb, leb}
 use lib.ListN.{length, getD}
 use borrow.Author.Tests.{eqb-true, eq-eqb, leb-true}
-use Rattle.ages.specs.Ages.{ages, among, isAge}
+use Rattle.record.specs.Ages.{ages, among, isAge}
 
 no-yes : {A : Type 0} → false ≡ true → A
 no-yes e = let z : _≡_ {A = ℕ} 0 1 = cc in absurd (none z)

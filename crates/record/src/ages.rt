@@ -1,7 +1,8 @@
 // The ages of readers: where what a reader knows of a record ends.
+use crate::ENDS;
 ghost use mathlib.Core.Path.{_≡_};
 ghost use lib.ListN.{getD};
-ghost use Rattle.ages.specs.Ages.{ages, isAge};
+ghost use Rattle.record.specs.Ages.{ages, isAge};
 
 // An age: one of the twelve constants, or a number that is refused.
 pub struct Age(pub u32);
@@ -43,26 +44,19 @@ impl Age {
     // The age that knows the fields up to `end_padding`.
     pub const A64: Age = Age(64);
 
-    // Whether the age is among the twelve.
+    // Whether the age is among the twelve, which are the ends of the fields from `screen_type` on.
     pub fn is_age(self) -> bool
         ensures { λ r. ⌜ r ≡ isAge (self .0) ⌝ }
     {
-        let a = self.0;
-        match a {
-            16 => true,
-            20 => true,
-            24 => true,
-            28 => true,
-            32 => true,
-            36 => true,
-            40 => true,
-            48 => true,
-            52 => true,
-            53 => true,
-            61 => true,
-            64 => true,
-            _ => false,
+        let age = self.0 as usize;
+        let mut f = 3;
+        while f < 15 {
+            if ENDS[f] == age {
+                return true;
+            }
+            f += 1;
         }
+        false
     }
 
     // The age in a row of the twelve, counted from 0 by rising age, and 0, which is none, past the last.

@@ -2,9 +2,9 @@
 use mathlib.Core.Path.{sym}
 use lib.ListN.{List·getD-eq-default}
 use Rattle.answers.proofs.Rest.{past}
-use Rattle.ages.specs.Ages.{ages}
-use Rattle.ages.proofs.Age.nth.Statement.{statement}
-use Rattle.ages.proofs.Age.nth.Tie as tie
+use Rattle.record.specs.Ages.{ages}
+use Rattle.record.proofs.ages.Age.nth.Statement.{statement}
+use Rattle.record.proofs.ages.Age.nth.Tie as tie
 
 pub nth-spec : {M : Type 1} → statement M
 nth-spec =

@@ -2,8 +2,8 @@
 use Prim.Native.Nat.{ℕ}
 use mathlib.Core.Path.{_≡_, sym, ap, _∙_}
 use lib.ListN.{getD}
-use Rattle.ages.specs.declared.Age.{Age}
-use Rattle.ages.specs.Ages.{ages}
+use Rattle.record.specs.declared.ages.Age.{Age}
+use Rattle.record.specs.Ages.{ages}
 
 -- `Age::nth` says so of the number in its answer, which is all that the answer holds.
 pub one-age : (row : ℕ) (r s : Age) → r .0 ≡ getD ages row 0 → s .0 ≡ getD ages row 0 → r ≡ s
