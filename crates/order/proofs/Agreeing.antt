@@ -93,5 +93,5 @@ pub agree-keys : (a b : ResTableConfig) → Agreeing a b → key a ≡ key b
 agree-keys a b e = cc
 
 -- Equal exactly when all fourteen fields agree
-pub equal-exactly : (a b : ResTableConfig) → SameLengths a b → EqualWhenAgreeing a b
+pub equal-exactly : (a b : ResTableConfig) → EqualWhenAgreeing a b
 equal-exactly a b l = ((λ e. keys-agree a b l (equal-keys a b e)), (λ e. keys-equal a b (agree-keys a b e)))

@@ -49,9 +49,9 @@ pub record Agreeing (a b : ResTableConfig) : Type 0 where
   pub «locale_numbering_system» : a .«locale_numbering_system» ≡ b .«locale_numbering_system»
   pub «end_padding» : a .«end_padding» ≡ b .«end_padding»
 
--- the order is Equal exactly when all fourteen agree
+-- the order is Equal exactly when all fourteen agree; of any two records, as their types give the arrays their lengths
 abbrev pub EqualWhenAgreeing : ResTableConfig → ResTableConfig → Type 0
-EqualWhenAgreeing a b = (orderOf a b ≡ Ordering.Equal) ↔ Agreeing a b
+EqualWhenAgreeing a b = SameLengths a b → ((orderOf a b ≡ Ordering.Equal) ↔ Agreeing a b)
 
 -- equality says yes exactly when the order is Equal
 abbrev pub EqualWhenYes : ResTableConfig → ResTableConfig → Type 0

@@ -78,10 +78,10 @@ writer-row r w old =
     (subst (λ (n : ℕ). Goes (shorterThan n old ∷ []) (λ why. refused why old) (wrote (shown r) old) (written (shown r) old)) (shown-long r w) (written-row (shown r) old))
 
 -- `write`: 6, 5
-pub writer-exactly : (r : ResTableConfig) → Shaped r → (old : List ℕ) → WriterRefuses r old
-writer-exactly r w old = refuses-by refl (writer-row r w old)
+pub writer-exactly : (r : ResTableConfig) (old : List ℕ) → WriterRefuses r old
+writer-exactly r old w = refuses-by refl (writer-row r w old)
 
 -- what the writer takes is tidy, and the lent buffer has T bytes
 pub took-tidy : (r : ResTableConfig) → Shaped r → (old : List ℕ) → writeOf r old .tells .number ≡ 0 → (tidy r ≡ true) × (span r ≤ length old)
 took-tidy r w old e =
-    let n = writer-exactly r w old .exactly .succeeds .0 e in (not-false (tidy r) (n .0), ltb-false (length old) (span r) (n .1 .0))
+    let n = writer-exactly r old w .exactly .succeeds .0 e in (not-false (tidy r) (n .0), ltb-false (length old) (span r) (n .1 .0))

@@ -108,8 +108,8 @@ pub back : (r : ResTableConfig) → Shaped r → tidy r ≡ true → parseOf (sh
 back r w fine = rw append-nil at (back-behind r w [] fine)
 
 -- a record that is written reads back as itself: from the lent buffer, and from its first T bytes
-pub written-back : (r : ResTableConfig) → Shaped r → (old : List ℕ) → ReadsBack r old
-written-back r w old e =
+pub written-back : ReadsBack
+written-back r old w e =
     let f = took-tidy r w old e in
     let o = wrote-is r w old (f .0) (f .1) in
     let n = length (shown r) in

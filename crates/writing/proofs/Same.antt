@@ -13,7 +13,7 @@ use Rattle.record.specs.Table.{Bytes, part, le, allZero, startOf, endOf, widthO
 use Rattle.reading.specs.Reading.{reads, fieldBy, recordBy, plain, sizeOf, taken}
 use Rattle.reading.proofs.Limits.{start-end}
 use Rattle.writing.specs.Writing.{bytes4, bytesOf, span, inField, decoded, keeps, tidy, shown, Shaped, Kept}
-use Rattle.writing.specs.Demand2.{WritesBack}
+use Rattle.writing.specs.Demand2.{SameBytes, WritesBack}
 use Rattle.writing.proofs.Below.{none, _then_, all-at, and-both, Place, some-place, each-here}
 use Rattle.writing.proofs.Zeros.{all-zeros, part-at}
 use Rattle.writing.proofs.Bytes.{part-bytes, zeros-bytes, word-back, yes-back, bit-most}
@@ -155,8 +155,12 @@ module _ (s : List ℕ) (small : Bytes s) (whole : taken s ≤ length s) where
   exactly = (then-kept, kept-then)
 
   -- the same of the writer, with a lent buffer that holds them: it writes T bytes, and they are those of s exactly then
-  pub written-same : (old : List ℕ) → taken s ≤ length old → WritesBack s old
+  written-same : (old : List ℕ) → taken s ≤ length old → SameBytes s old
   written-same old h =
       let o = wrote-is (plain s) shaped-read old tidy-read (omega (arith, span-is)) in
       let f = ap (λ (z : Outcome). take (taken s) (z .leaves)) o ∙ take-at (shown (plain s)) (drop (length (shown (plain s))) old) (taken s) out-long in
       record { takes = o; same = ((λ e. then-kept (sym f ∙ e)), (λ w. f ∙ kept-then w)) }
+
+-- a record's bytes, read and written back
+pub same-back : WritesBack
+same-back s old small whole h = written-same s small whole old h

@@ -10,7 +10,7 @@ use Rattle.buffer.specs.Demand1.{shorterThan, Refuses}
 use Rattle.record.specs.declared.ResTableConfig.{ResTableConfig}
 use Rattle.record.specs.Table.{allZero}
 use Rattle.reading.specs.Reading.{reads}
-use Rattle.writing.specs.Writing.{bytesOf, span, tidy, writeOf}
+use Rattle.writing.specs.Writing.{bytesOf, span, tidy, writeOf, Shaped}
 
 -- 6: a field that isn't read at the record's size isn't zero
 abbrev pub unreadField : ResTableConfig → Condition
@@ -27,6 +27,6 @@ pub record Stray (r : ResTableConfig) : Type 0 where
 abbrev pub UntidyWhenStray : ResTableConfig → Type 0
 UntidyWhenStray r = (tidy r ≡ false) ↔ Stray r
 
--- `write` of a record, which takes T bytes: 6, 5
+-- `write` of a record, which takes T bytes: 6, 5; that the arrays of a record have the lengths of their types, `shape` shows of every one
 abbrev pub WriterRefuses : ResTableConfig → List ℕ → Type 0
-WriterRefuses r old = Refuses (unreadField r ∷ shorterThan (span r) old ∷ []) old (writeOf r old)
+WriterRefuses r old = Shaped r → Refuses (unreadField r ∷ shorterThan (span r) old ∷ []) old (writeOf r old)
