@@ -2,9 +2,11 @@
 use Prim.Native.Nat.{ℕ}
 use mathlib.Core.Path.{_≡_, refl, sym, ap, _∙_}
 use mathlib.Core.Bool.{Bool, true, false, not, cond}
-use mathlib.Core.List.{List, [], _∷_}
-use mathlib.Core.Logic.{_⊎_, inl, inr}
+use mathlib.Core.List.{List, [], _∷_, _++_}
+use mathlib.Core.Logic.{_↔_, _⊎_, inl, inr}
 use native.Mathlib.Omega.{arith}
+use lib.Dec.{T, eqb}
+use borrow.Author.Tests.{eqb-false}
 use Rattle.answers.specs.declared.Refusal.{Refusal}
 use Rattle.answers.specs.declared.Told.{Told}
 use Rattle.answers.specs.Numbers.{numberOf}
@@ -98,3 +100,38 @@ module _ {A : Type 0} (number : A → ℕ) (refuse : Refusal → A) (give : A) (
 -- of a call that answers by what is told
 pub told-exactly : {row : List Condition} {n : ℕ} {t : Told} → Goes row (λ why. refusal (numberOf why)) (success n) t → Exactly row (t .number)
 told-exactly {n = n} g = row-exactly (λ (t : Told). t .number) (λ why. refusal (numberOf why)) (success n) (λ why. refl) refl g
+
+-- a refusal that no condition of a row asks for, by a computed test
+abbrev pub absent : Refusal → List Condition → Bool
+absent why [] = true
+absent why (c ∷ row) = cond (eqb (numberOf (c .why)) (numberOf why)) false (absent why row)
+
+other-by : (r why : Refusal) (b rest : Bool) → eqb (numberOf r) (numberOf why) ≡ b → T (cond b false rest) → (r ≡ why → ⊥) × T rest
+other-by r why true rest e t = absurd t
+other-by r why false rest e t = ((λ q. eqb-false (numberOf r) (numberOf why) e (ap numberOf q)), t)
+
+-- the first condition of such a row asks for another, and so do the rest
+others : (why : Refusal) (c : Condition) (row : List Condition) → T (absent why (c ∷ row)) → (c .why ≡ why → ⊥) × T (absent why row)
+others why c row t = other-by (c .why) why (eqb (numberOf (c .why)) (numberOf why)) (absent why row) refl t
+
+never : (why : Refusal) (row : List Condition) → T (absent why row) → FirstOf why row → ⊥
+never why [] t h = h
+never why (c ∷ row) t (inl h) = others why c row t .0 (h .1)
+never why (c ∷ row) t (inr h) = never why row (others why c row t .1) (h .1)
+
+module _ (c : Condition) (behind : List Condition) (last : T (absent (c .why) behind)) where
+  holds-first : (before : List Condition) → T (absent (c .why) before) → FirstOf (c .why) (before ++ (c ∷ behind)) → NoneOf before × (c .holds ≡ true)
+  holds-first [] t (inl h) = (tt, h .0)
+  holds-first [] t (inr h) = absurd (never (c .why) behind last (h .1))
+  holds-first (d ∷ before) t (inl h) = absurd (others (c .why) d before t .0 (h .1))
+  holds-first (d ∷ before) t (inr h) = let g = holds-first before (others (c .why) d before t .1) (h .1) in ((h .0, g .0), g .1)
+
+  first-holds : (before : List Condition) → NoneOf before → c .holds ≡ true → FirstOf (c .why) (before ++ (c ∷ behind))
+  first-holds [] n h = inl (h, refl)
+  first-holds (d ∷ before) n h = inr (n .0, first-holds before (n .1) h)
+
+  -- of a call with a row that asks for a refusal once: its number exactly when its condition holds and none before it does
+  pub number-exactly : (before : List Condition) → T (absent (c .why) before) → (n : ℕ) → Exactly (before ++ (c ∷ behind)) n
+      → (n ≡ numberOf (c .why)) ↔ (NoneOf before × (c .holds ≡ true))
+  number-exactly before t n e =
+      ((λ q. holds-first before t (e .refuses (c .why) .0 q)), (λ h. e .refuses (c .why) .1 (first-holds before (h .0) (h .1))))

@@ -4,11 +4,11 @@ use mathlib.Core.Path.{_≡_, refl, sym, ap, _∙_}
 use mathlib.Core.Bool.{Bool, true, false, cond}
 use mathlib.Core.List.{List}
 use native.Mathlib.Omega.{arith}
-use native.Mathlib.Decide.{decLe}
 use lib.ListN.{length, getD, drop, List·getD-append}
+use borrow.Author.Tests.{ltb-false}
 use Rattle.answers.specs.declared.Refusal.{Refusal}
 use Rattle.buffer.specs.Written.{Outcome, written, wrote, refused}
-use Rattle.buffer.proofs.Writing.{written-fits, written-short}
+use Rattle.buffer.proofs.Writing.{written-fits}
 use Rattle.record.specs.Ages.{isAge}
 use Rattle.record.specs.Table.{endOf}
 use Rattle.reading.specs.Reading.{ParseOutcome, parseOf, plain, aged, taken}
@@ -19,6 +19,7 @@ use Rattle.marking.proofs.TwoAges.{same-mark, shown-later}
 use Rattle.marking.proofs.HeldBack.{held-exactly, shown-zero}
 use Rattle.places.specs.Places.{textOf}
 use Rattle.text.specs.Text.{plainText, agedText}
+use Rattle.text.proofs.Exactly.{aged-exactly}
 use Rattle.text.proofs.Same.{shown-text}
 use Rattle.runs.specs.Runs.{StepOutcome, stepOf}
 use Rattle.runs.specs.Demand3.{Shows, ZeroFrom}
@@ -53,17 +54,10 @@ module _ (t : List ℕ) (whole : taken t ≤ length t) where
 
     -- a text that is shown: nothing is held back, and the text fits
     shows-fits : (old : List ℕ) → Shows (agedText a t old) → (heldBack a t ≡ false) × (length (textOf (plain t)) ≤ length old)
-    shows-fits old e = by (heldBack a t) refl where
-      fits-in : heldBack a t ≡ false → length (textOf (plain t)) ≤ length old
-      fits-in h =
-          elim (decLe (length (textOf (plain t))) (length old)) [
-            | yes l ↦ l
-            | no l ↦ absurd (let z = rw (shown-is old h, written-short (textOf (plain t)) old (omega arith)) at e in omega arith)
-          ]
-
-      by : (b : Bool) → heldBack a t ≡ b → (heldBack a t ≡ false) × (length (textOf (plain t)) ≤ length old)
-      by true h = absurd (let z = rw (text-by old true h) at e in omega arith)
-      by false h = (h, fits-in h)
+    shows-fits old e =
+        let n = aged-exactly a t old .exactly .succeeds .0 e in
+        let h : heldBack a t ≡ false = n .1 .1 .1 .0 in
+        (h, rw (shown-text a t age whole h) at (ltb-false (length old) (length (textOf (aged a t))) (n .1 .1 .1 .1 .0)))
 
     -- a text that isn't held back and fits is written
     fits-wrote : (old : List ℕ) → heldBack a t ≡ false → length (textOf (plain t)) ≤ length old → agedText a t old ≡ wrote (textOf (plain t)) old

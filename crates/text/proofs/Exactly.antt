@@ -1,13 +1,21 @@
 -- When a text is shown, and when it is refused and with which number. Assumes nothing.
 use Prim.Native.Nat.{ℕ}
-use mathlib.Core.Path.{refl}
-use mathlib.Core.List.{List}
-use Rattle.answers.proofs.Exactly.{one-more}
+use mathlib.Core.Path.{_≡_, refl}
+use mathlib.Core.Bool.{true}
+use mathlib.Core.List.{List, [], _∷_}
+use mathlib.Core.Logic.{_↔_}
+use lib.ListN.{length}
+use Rattle.answers.specs.Demand1.{NoneOf}
+use Rattle.answers.proofs.Exactly.{one-more, number-exactly}
+use Rattle.buffer.specs.Demand1.{shorterThan}
 use Rattle.buffer.proofs.Exactly.{written-row, refuses-by}
 use Rattle.reading.specs.Reading.{plain, aged}
+use Rattle.reading.specs.Demand1.{fewerThan16, fewerThanSize, notAnAge}
 use Rattle.reading.proofs.Exactly.{whole-row, age-row}
+use Rattle.marking.specs.Marks.{heldBack}
 use Rattle.marking.specs.Demand1.{isHeldBack}
 use Rattle.places.specs.Places.{textOf}
+use Rattle.text.specs.Text.{agedText}
 use Rattle.text.specs.Demand1.{PlainTextRefuses, AgedTextRefuses}
 
 -- `plain_text`: 1, 2, 5
@@ -17,3 +25,10 @@ plain-exactly s old = refuses-by refl (whole-row s (written-row (textOf (plain s
 -- `aged_text`: 3, 1, 2, 4, 5
 pub aged-exactly : (a : ℕ) (s old : List ℕ) → AgedTextRefuses a s old
 aged-exactly a s old = refuses-by refl (age-row a (whole-row s (one-more (isHeldBack a s) (written-row (textOf (aged a s)) old))))
+
+-- so 4 is given exactly when the record is held back at one of the twelve ages, and whole
+pub four-exactly : (a : ℕ) (s old : List ℕ)
+    → (agedText a s old .tells .number ≡ 4) ↔ (NoneOf (notAnAge a ∷ fewerThan16 s ∷ fewerThanSize s ∷ []) × (heldBack a s ≡ true))
+four-exactly a s old =
+    number-exactly (isHeldBack a s) (shorterThan (length (textOf (aged a s))) old ∷ []) tt
+    (notAnAge a ∷ fewerThan16 s ∷ fewerThanSize s ∷ []) tt _ (aged-exactly a s old .exactly)
