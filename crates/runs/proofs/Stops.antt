@@ -9,7 +9,7 @@ use Rattle.answers.specs.declared.Refusal.{Refusal}
 use Rattle.reading.specs.Reading.{amountOf, taken}
 use Rattle.reading.proofs.Whole.{amounts, takes, refuses, whole-short, took-says}
 use Rattle.runs.specs.Runs.{offsetsIn, stopIn, offsetsOf, stopOf, most}
-use Rattle.runs.specs.Stops.{NotWhole, Walked}
+use Rattle.runs.specs.Stops.{NotWhole, WholeRecords}
 use Rattle.runs.proofs.Walking.{fits, stop-next, stop-here, offset-next, offset-none}
 
 stop-zero : (s : List ℕ) (p : ℕ) → stopIn zero s p ≡ p
@@ -67,6 +67,6 @@ each-in (suc k) s p i h =
 pub each-whole : (s : List ℕ) (p i : ℕ) → i < length (offsetsOf s p) → taken (drop (getD (offsetsOf s p) i 0) s) ≤ length (drop (getD (offsetsOf s p) i 0) s)
 each-whole s p i h = each-in (most s) s p i h
 
--- the run of s that begins at p
-pub walked : (s : List ℕ) (p : ℕ) → Walked s p
-walked s p = record { each = each-whole s p; stop = stop-not-whole s p; most = few s p }
+-- the records of a run
+pub whole-records : (s : List ℕ) (p : ℕ) → WholeRecords s p
+whole-records s p = record { each = each-whole s p; stop = stop-not-whole s p; most = few s p }

@@ -16,7 +16,7 @@ pub record NotWhole (t : List ℕ) : Type 0 where
 
 -- of the run of s that begins at p: a whole record stands at each of its offsets, none where it stops, and it has at most one
 -- record for each 16 of the bytes there
-pub record Walked (s : List ℕ) (p : ℕ) : Type 0 where
+pub record WholeRecords (s : List ℕ) (p : ℕ) : Type 0 where
   pub each : (i : ℕ) → i < length (offsetsOf s p) → taken (drop (getD (offsetsOf s p) i 0) s) ≤ length (drop (getD (offsetsOf s p) i 0) s)
   pub stop : NotWhole (drop (stopOf s p) s)
   pub most : length (offsetsOf s p) * 16 ≤ length s - p
