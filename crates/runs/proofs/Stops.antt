@@ -69,4 +69,4 @@ each-whole s p i h = each-in (most s) s p i h
 
 -- the records of a run
 pub whole-records : (s : List ℕ) (p : ℕ) → WholeRecords s p
-whole-records s p = record { each = each-whole s p; stop = stop-not-whole s p; most = few s p }
+whole-records s p = record { each = each-whole s p; stop = stop-not-whole s p; few = few s p }

@@ -19,4 +19,4 @@ pub record NotWhole (t : List ℕ) : Type 0 where
 pub record WholeRecords (s : List ℕ) (p : ℕ) : Type 0 where
   pub each : (i : ℕ) → i < length (offsetsOf s p) → taken (drop (getD (offsetsOf s p) i 0) s) ≤ length (drop (getD (offsetsOf s p) i 0) s)
   pub stop : NotWhole (drop (stopOf s p) s)
-  pub most : length (offsetsOf s p) * 16 ≤ length s - p
+  pub few : length (offsetsOf s p) * 16 ≤ length s - p
