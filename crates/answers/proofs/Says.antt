@@ -1,11 +1,6 @@
--- What is chosen by a test: a type, or one of two values. Assumes nothing.
+-- What is chosen of two values by a test. Assumes nothing.
 use mathlib.Core.Path.{_≡_, refl}
 use mathlib.Core.Bool.{Bool, true, false, cond}
-
--- the first type where the test holds, else the second
-abbrev pub pick : Bool → Type 0 → Type 0 → Type 0
-pick true A B = A
-pick false A B = B
 
 -- what holds of both holds of the one that is chosen
 pub chosen : {A : Type 0} (P : A → Type 0) (b : Bool) {x y : A} → P x → P y → P (cond b x y)

@@ -1,4 +1,5 @@
 pub mod Digits
+pub mod Exactly
 pub mod OneOutcome
 pub mod Putting
 pub mod Writing

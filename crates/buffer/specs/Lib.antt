@@ -1,4 +1,5 @@
 pub mod Ascii
 pub mod Decimal
+pub mod Demand1
 pub mod Put
 pub mod Written

@@ -16,7 +16,8 @@ use Rattle.reading.proofs.Whole.{amounts, takes, refuses, whole-took, refused-w
 use Rattle.reading.proofs.Exactly.{parse-tells, success-exactly}
 use Rattle.intake.specs.Intake.{answerTells, answerOutcome, orderTold}
 use Rattle.intake.proofs.Packing.{amount-tells}
-use Rattle.intake.proofs.Small.{Small, ordering-most}
+use Rattle.intake.specs.Small.{Small}
+use Rattle.intake.proofs.Small.{ordering-most}
 
 -- what is told has room in an answer
 pub fits : (t u : Told) → t ≡ u → Small u → t .amount < 4294967296

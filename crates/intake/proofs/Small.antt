@@ -1,13 +1,12 @@
 -- What the calls tell has a number below 8 and an amount below 2^32, so nothing of it is lost in an answer; and a refusal has
 -- amount 0. Assumes nothing.
 use Prim.Native.Nat.{ℕ, _≤_, _<_}
-use mathlib.Core.Path.{_≡_, refl}
+use mathlib.Core.Path.{refl}
 use mathlib.Core.List.{List}
 use native.Mathlib.Omega.{arith}
 use lib.Dec.{leb, lit<}
 use lib.ListN.{length}
 use Rattle.answers.specs.declared.Refusal.{Refusal}
-use Rattle.answers.specs.declared.Told.{Told}
 use Rattle.answers.specs.Numbers.{numberOf}
 use Rattle.answers.specs.Tells.{success, refusal}
 use Rattle.answers.proofs.OneToOne.{number-most}
@@ -25,12 +24,7 @@ use Rattle.places.specs.Places.{textOf}
 use Rattle.text.specs.Text.{plainText, agedText}
 use Rattle.text.proofs.Ranges.{part-below, plain-long, aged-long}
 use Rattle.intake.specs.Intake.{orderTold}
-
--- a number below 8 and an amount below 2^32, which is 0 where the number isn't
-pub record Small (t : Told) : Type 0 where
-  pub number : t .number < 8
-  pub amount : t .amount < 4294967296
-  pub bare : (t .number ≡ 0 → ⊥) → t .amount ≡ 0
+use Rattle.intake.specs.Small.{Small}
 
 refusal-small : (why : Refusal) → Small (refusal (numberOf why))
 refusal-small why = record { number = omega (arith, number-most why); amount = lit< tt; bare = λ d. refl }

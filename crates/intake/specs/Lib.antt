@@ -1,1 +1,3 @@
 pub mod Intake
+pub mod Small
+pub mod Demand1

@@ -13,7 +13,7 @@ use Rattle.answers.specs.Numbers.{numberOf}
 use Rattle.answers.specs.Tells.{refusal}
 use Rattle.answers.proofs.OneToOne.{number-most}
 use Rattle.answers.proofs.Says.{chosen}
-use Rattle.buffer.specs.Written.{Outcome, wrote}
+use Rattle.buffer.specs.Written.{wrote}
 use Rattle.buffer.proofs.Digits.{decimal-long}
 use Rattle.record.specs.Table.{Bytes}
 use Rattle.record.specs.Ages.{isAge}
@@ -24,19 +24,9 @@ use Rattle.runs.specs.Runs.{offsetsIn, stopIn, reasonAt}
 use Rattle.shown.specs.Shown.{recordLine}
 use Rattle.lines.specs.declared.Cursor.{Cursor}
 use Rattle.lines.specs.Lines.{ageLine, stopLine, lineAt, after, lineOf, callsOf, cursorOf, recordLines, listingOf}
+use Rattle.lines.specs.Listing.{Roomy, eachWrote, WholeListing}
 use Rattle.lines.proofs.Bounds.{age-long, stop-long, whole-long}
 use Rattle.lines.proofs.Exactly.{line-given}
-
--- lent buffers with room for any line
-abbrev pub Roomy : List (List ℕ) → Type 0
-Roomy [] = Unit {0}
-Roomy (old ∷ olds) = (1066 ≤ length old) × Roomy olds
-
--- what writing lines into buffers comes to, in order
-abbrev pub eachWrote : List (List ℕ) → List (List ℕ) → List Outcome
-eachWrote [] olds = []
-eachWrote (w ∷ ws) [] = []
-eachWrote (w ∷ ws) (old ∷ olds) = wrote w old ∷ eachWrote ws olds
 
 -- calls in a row from cursor c on give the lines ws, and lead to cursor d
 pub record Gives (a : ℕ) (s : List ℕ) (c : Cursor) (ws : List (List ℕ)) (d : Cursor) : Type 0 where
@@ -128,10 +118,8 @@ module _ (a : ℕ) (s : List ℕ) (known : isAge a ≡ true) (small : length s �
         (then Cursor.Start (ageLine a) _ (Cursor.Record 0 0) Cursor.End refl refl
         (omega (arith, age-long 1 a digits)) (run (length s / 16) 0 0 (omega arith) (omega arith) (omega arith)))
 
--- at most 65,536 bytes, one of the twelve ages, and as many lent buffers of 1,066 bytes or more as the listing has lines: the
--- calls from the start on write its lines, in order, and lead to the end
-pub whole-listing : (a : ℕ) (s : List ℕ) → isAge a ≡ true → length s ≤ 65536 → Bytes s → (olds : List (List ℕ)) → Roomy olds → length olds ≡ length (listingOf a s)
-    → (callsOf a s Cursor.Start olds ≡ eachWrote (listingOf a s) olds) × (cursorOf a s Cursor.Start olds ≡ Cursor.End)
+-- the calls from the start on give the whole listing
+pub whole-listing : WholeListing
 whole-listing a s known small bytes olds r e = let l = listed a s known small bytes in (l .calls olds r e, l .leads olds r e)
 
 -- too much input has two lines, whatever its bytes are

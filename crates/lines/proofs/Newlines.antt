@@ -6,13 +6,10 @@ use lib.ListN.{drop}
 use Rattle.answers.proofs.Says.{chosen}
 use Rattle.buffer.specs.Ascii.{ascii}
 use Rattle.runs.specs.Runs.{offsetsOf, stopOf, reasonAt}
-use Rattle.shown.proofs.Newlines.{Ended, both, fixed, number, gap, record-ended}
+use Rattle.shown.specs.Ended.{Ended}
+use Rattle.shown.proofs.Newlines.{both, fixed, number, gap, record-ended}
 use Rattle.lines.specs.Lines.{ageLine, stopLine, recordLines, listingOf, tooMuch}
-
--- each line of some
-abbrev pub EachEnded : List (List ℕ) → Type 0
-EachEnded [] = Unit {0}
-EachEnded (w ∷ ws) = Ended w × EachEnded ws
+use Rattle.lines.specs.Listing.{EachEnded}
 
 -- the line with the age, and the last one
 age-ended : (a : ℕ) → Ended (ageLine a)

@@ -7,7 +7,7 @@ use lib.ListN.{length, drop}
 use Rattle.answers.specs.declared.Refusal.{Refusal}
 use Rattle.buffer.specs.Ascii.{ascii}
 use Rattle.buffer.specs.Decimal.{decimal}
-use Rattle.buffer.specs.Written.{Outcome, outcome, written, refused}
+use Rattle.buffer.specs.Written.{Outcome, outcome, written, wrote, refused}
 use Rattle.reading.specs.Reading.{taken, ifWhole, ifAge}
 use Rattle.runs.specs.Runs.{offsetsOf, stopOf, reasonAt}
 use Rattle.shown.specs.Shown.{newline, space, recordLine}
@@ -49,6 +49,10 @@ linedOutcome lined buffer = record { does = outcome (lined .answer) buffer; goes
 -- a refused call gives back the cursor that came in
 abbrev pub lineRefused : Refusal → Cursor → List ℕ → LineOutcome
 lineRefused why c old = record { does = refused why old; goes = c }
+
+-- a line that is given: it is written to the front of the lent buffer, and the listing goes on behind it
+abbrev pub lineGiven : ℕ → List ℕ → Cursor → List ℕ → LineOutcome
+lineGiven a s c old = record { does = wrote (lineAt a s c) old; goes = after s c }
 
 -- a line w is written and the listing goes on at next; where the lent buffer is shorter than w, it is refused with 5 and stays at c
 abbrev pub lineWritten : List ℕ → Cursor → Cursor → List ℕ → LineOutcome

@@ -11,14 +11,8 @@ use borrow.Author.Tests.{not-true, not-false}
 use Rattle.record.specs.Table.{allZero}
 use Rattle.reading.specs.Reading.{taken}
 use Rattle.marking.specs.Marks.{heldBack}
+use Rattle.marking.specs.Demand1.{Late, HeldWhenLate}
 use Rattle.marking.proofs.Zeros.{some-found, each-zero}
-
--- one of the T bytes at offset a or later that isn't zero
-pub record Late (a : ℕ) (s : List ℕ) : Type 0 where
-  pub place : ℕ
-  pub late : a ≤ place
-  pub within : place < taken s
-  pub found : getD s place 0 ≡ 0 → ⊥
 
 -- the byte at place k of the record, where the age is at most k
 byte-at : (a : ℕ) (s : List ℕ) (k : ℕ) → a ≤ k → k < taken s → getD (drop a (take (taken s) s)) (k - a) 0 ≡ getD s k 0
@@ -52,7 +46,7 @@ late-held a s w true e = refl
 late-held a s w false e = absurd (w .found (shown-zero a s e (w .place) (w .late) (w .within)))
 
 -- held back exactly when there is a place k, with a ≤ k < T, whose byte isn't zero
-pub held-exactly : (a : ℕ) (s : List ℕ) → (heldBack a s ≡ true → Late a s) × (Late a s → heldBack a s ≡ true)
+pub held-exactly : (a : ℕ) (s : List ℕ) → HeldWhenLate a s
 held-exactly a s = (held-late a s, (λ w. late-held a s w (heldBack a s) refl))
 
 -- a byte in no field counts: at size 44 byte 40 is in no field that is read, and a reader of age 40 holds back for it

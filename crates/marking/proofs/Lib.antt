@@ -2,6 +2,7 @@ pub mod Zeros
 pub mod Marking
 pub mod Answering
 pub mod HeldBack
+pub mod Exactly
 pub mod NeverA
 pub mod TwoAges
 pub mod OneOutcome

@@ -9,6 +9,8 @@ use Rattle.record.specs.Table.{bit}
 use Rattle.order.specs.Order.{key, orderOf, equalOf}
 use Rattle.record.specs.declared.ResTableConfig.{ResTableConfig}
 use Rattle.record.specs.Blank.{withSize}
+use Rattle.order.specs.Total.{SameLengths, Agreeing, EqualWhenAgreeing}
+use Rattle.order.proofs.Total.{equal-keys, keys-equal}
 
 -- size never counts in the order
 pub size-order : (a b : ResTableConfig) (m n : ℕ) → orderOf (withSize a m) (withSize b n) ≡ orderOf a b
@@ -19,29 +21,6 @@ size-order a b m n = refl
 pub size-equal : (a b : ResTableConfig) (m n : ℕ) → equalOf (withSize a m) (withSize b n) ≡ equalOf a b
 unfolding equalOf
 size-equal a b m n = refl
-
--- the arrays of two records have one length each, as their types have it
-pub record Alike (a b : ResTableConfig) : Type 0 where
-  pub scripts : length (a .«locale_script») ≡ length (b .«locale_script»)
-  pub variants : length (a .«locale_variant») ≡ length (b .«locale_variant»)
-  pub numberings : length (a .«locale_numbering_system») ≡ length (b .«locale_numbering_system»)
-
--- all fourteen fields agree
-pub record Agreeing (a b : ResTableConfig) : Type 0 where
-  pub imsi : a .imsi ≡ b .imsi
-  pub locale : a .locale ≡ b .locale
-  pub «screen_type» : a .«screen_type» ≡ b .«screen_type»
-  pub «generic_purpose_field» : a .«generic_purpose_field» ≡ b .«generic_purpose_field»
-  pub «screen_size» : a .«screen_size» ≡ b .«screen_size»
-  pub version : a .version ≡ b .version
-  pub «screen_config» : a .«screen_config» ≡ b .«screen_config»
-  pub «screen_size_dp» : a .«screen_size_dp» ≡ b .«screen_size_dp»
-  pub «locale_script» : a .«locale_script» ≡ b .«locale_script»
-  pub «locale_variant» : a .«locale_variant» ≡ b .«locale_variant»
-  pub «screen_config_2» : a .«screen_config_2» ≡ b .«screen_config_2»
-  pub «locale_script_was_computed» : a .«locale_script_was_computed» ≡ b .«locale_script_was_computed»
-  pub «locale_numbering_system» : a .«locale_numbering_system» ≡ b .«locale_numbering_system»
-  pub «end_padding» : a .«end_padding» ≡ b .«end_padding»
 
 clash : {A : Type 0} → _≡_ {A = ℕ} 0 1 → A
 clash z = absurd (none z)
@@ -77,7 +56,7 @@ tail-one : {x y : ℕ} {s t : List ℕ} → x ∷ s ≡ y ∷ t → (x ≡ y) ×
 tail-one e = (cc, cc)
 
 -- one key, all fourteen fields
-pub keys-agree : (a b : ResTableConfig) → Alike a b → key a ≡ key b → Agreeing a b
+pub keys-agree : (a b : ResTableConfig) → SameLengths a b → key a ≡ key b → Agreeing a b
 keys-agree a b l e =
     let k1 = tail-one e in
     let k2 = tail-one (k1 .1) in
@@ -112,3 +91,7 @@ keys-agree a b l e =
 -- and all fourteen fields, one key
 pub agree-keys : (a b : ResTableConfig) → Agreeing a b → key a ≡ key b
 agree-keys a b e = cc
+
+-- Equal exactly when all fourteen fields agree
+pub equal-exactly : (a b : ResTableConfig) → EqualWhenAgreeing a b
+equal-exactly a b l = ((λ e. keys-agree a b l (equal-keys a b e)), (λ e. keys-equal a b (agree-keys a b e)))

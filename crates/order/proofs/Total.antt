@@ -7,15 +7,10 @@ use mathlib.Core.List.{List, [], _∷_}
 use mathlib.Core.Logic.{_⊎_, inl, inr}
 use native.Mathlib.Omega.{arith}
 use Rattle.order.specs.Order.{numberOrder, andThen, lex, key, orderOf, equalOf}
+use Rattle.order.specs.Total.{flip, Total, Transitive, Antisymmetric, EqualWhenYes}
 use Rattle.record.specs.declared.ResTableConfig.{ResTableConfig}
 use Rattle.order.specs.declared.Ordering.{Ordering}
 use Rattle.order.proofs.Lex.{less-is, greater-is, equal-is, by-order, isEqual, agree-order}
-
--- the order read from the other side
-abbrev pub flip : Ordering → Ordering
-flip Ordering.Less = Ordering.Greater
-flip Ordering.Equal = Ordering.Equal
-flip Ordering.Greater = Ordering.Less
 
 clash : {A : Type 0} → _≡_ {A = ℕ} 0 1 → A
 clash z = absurd (none z)
@@ -42,7 +37,7 @@ lex-flip (x ∷ a) [] = refl
 lex-flip (x ∷ a) (y ∷ b) = rw (number-flip x y, lex-flip a b) (then-flip (numberOrder x y) (lex a b))
 
 -- the second stands to the first as the first to the second, read from the other side
-pub order-flip : (a b : ResTableConfig) → orderOf b a ≡ flip (orderOf a b)
+pub order-flip : Total
 unfolding orderOf
 order-flip a b = lex-flip (key a) (key b)
 
@@ -60,8 +55,7 @@ neither Ordering.Equal d e = refl
 neither Ordering.Greater d e = absurd (d refl)
 
 -- two records of which neither is greater are Equal
-pub neither-greater : (a b : ResTableConfig) → (orderOf a b ≡ Ordering.Greater → ⊥) → (orderOf b a ≡ Ordering.Greater → ⊥)
-    → orderOf a b ≡ Ordering.Equal
+pub neither-greater : Antisymmetric
 neither-greater a b d e = neither (orderOf a b) d (λ f. e (order-flip a b ∙ f))
 
 less-by : (x y : ℕ) (o : Ordering) → andThen (numberOrder x y) o ≡ Ordering.Less → (x < y) ⊎ ((x ≡ y) × (o ≡ Ordering.Less))
@@ -94,7 +88,7 @@ lex-less (x ∷ a) (y ∷ b) (z ∷ c) e f =
     both-less x y z (lex a b) (lex b c) (lex a c) (lex-less a b c) (less-by x y (lex a b) e) (less-by y z (lex b c) f)
 
 -- Less than what is Less is Less
-pub less-less : (a b c : ResTableConfig) → orderOf a b ≡ Ordering.Less → orderOf b c ≡ Ordering.Less → orderOf a c ≡ Ordering.Less
+less-less : (a b c : ResTableConfig) → orderOf a b ≡ Ordering.Less → orderOf b c ≡ Ordering.Less → orderOf a c ≡ Ordering.Less
 unfolding orderOf
 less-less a b c e f = lex-less (key a) (key b) (key c) e f
 
@@ -130,11 +124,15 @@ unfolding orderOf
 keys-equal a b e = ap (lex (key a)) (sym e) ∙ lex-self (key a)
 
 -- Equal records stand in the same way to any third
-pub equal-alike : (a b c : ResTableConfig) → orderOf a b ≡ Ordering.Equal → orderOf a c ≡ orderOf b c
+equal-alike : (a b c : ResTableConfig) → orderOf a b ≡ Ordering.Equal → orderOf a c ≡ orderOf b c
 unfolding orderOf
 equal-alike a b c e = ap (λ (k : List ℕ). lex k (key c)) (equal-keys a b e)
 
--- `eq` says yes exactly when `cmp` says Equal
+-- three in a row stand in order
+pub transitive : Transitive
+transitive = record { less = less-less; equal = equal-alike }
+
+-- `eq` says whether `cmp` says Equal
 pub eq-cmp : (a b : ResTableConfig) → equalOf a b ≡ isEqual (orderOf a b)
 unfolding orderOf equalOf
 eq-cmp a b = agree-order (key a) (key b)
@@ -144,7 +142,11 @@ is-equal Ordering.Less e = let z : _≡_ {A = ℕ} 0 1 = cc in clash z
 is-equal Ordering.Equal e = refl
 is-equal Ordering.Greater e = let z : _≡_ {A = ℕ} 0 1 = cc in clash z
 
--- so it says yes to one key
+-- so it says yes exactly when `cmp` says Equal
+pub eq-exactly : (a b : ResTableConfig) → EqualWhenYes a b
+eq-exactly a b = ((λ e. is-equal (orderOf a b) (sym (eq-cmp a b) ∙ e)), (λ e. eq-cmp a b ∙ ap isEqual e))
+
+-- it says yes to one key
 pub eq-keys : (a b : ResTableConfig) → equalOf a b ≡ true → key a ≡ key b
 eq-keys a b e = equal-keys a b (is-equal (orderOf a b) (sym (eq-cmp a b) ∙ e))
 

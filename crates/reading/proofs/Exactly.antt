@@ -1,52 +1,59 @@
 -- When parsing succeeds and when it is refused, and with which number. Assumes nothing.
-use Prim.Native.Nat.{ℕ, _≤_, _<_}
-use mathlib.Core.Path.{_≡_, subst}
-use mathlib.Core.Bool.{true, false}
-use mathlib.Core.List.{List}
-use lib.Dec.{eqb}
+use Prim.Native.Nat.{ℕ, _≤_}
+use mathlib.Core.Path.{_≡_, refl, ap}
+use mathlib.Core.Bool.{true}
+use mathlib.Core.List.{List, _∷_}
+use mathlib.Core.Logic.{_↔_}
+use native.Mathlib.Omega.{arith}
+use borrow.Author.Tests.{ltb-false}
 use lib.ListN.{length}
-use Rattle.answers.proofs.Says.{pick}
+use Rattle.answers.specs.declared.Refusal.{Refusal}
+use Rattle.answers.specs.declared.Told.{Told}
+use Rattle.answers.specs.Demand1.{Condition, Exactly}
+use Rattle.answers.proofs.Exactly.{Goes, none-left, one-more, one-unless, row-exactly, told-exactly}
+use Rattle.record.specs.declared.ResTableConfig.{ResTableConfig}
 use Rattle.record.specs.Ages.{isAge}
-use Rattle.reading.specs.Reading.{ParseOutcome, parseOf, parseAged, amountOf, sizeOf, taken}
-use Rattle.reading.proofs.Whole.{front, short, cut, whole, whole-map, whole-short, whole-cut, whole-took, age-known, age-unknown}
+use Rattle.reading.specs.Reading.{ParseOutcome, parseOf, parseAged, parseTook, parseRefused, amountOf, sizeOf, taken, ifWhole, ifAge}
+use Rattle.reading.specs.Demand1.{fewerThan16, fewerThanSize, notAnAge, AmountRefuses, ParseRefuses, AgedRefuses}
+use Rattle.reading.proofs.Whole.{whole-map, whole-took, age-known}
 
-module _ (s : List ℕ) where
-  -- what each number says of the bytes
-  abbrev When : ℕ → Type 0
-  When n = pick (eqb n 1) (length s < 16) (pick (eqb n 2) ((16 ≤ length s) × (length s < sizeOf s)) (pick (eqb n 0) (taken s ≤ length s) ⊥))
+-- 1 and 2 before a row, and 3
+module _ {A : Type 0} {row : List Condition} {refuse : Refusal → A} {give o : A} where
+  pub whole-row : (s : List ℕ) → Goes row refuse give o → Goes (fewerThan16 s ∷ fewerThanSize s ∷ row) refuse give (ifWhole s refuse o)
+  unfolding ifWhole
+  whole-row s g = one-more (fewerThan16 s) (one-more (fewerThanSize s) g)
 
-  when : When (amountOf s .number)
-  when =
-      elim (front s) [
-        | short h ↦ rw (whole-short s _ _ h) h
-        | cut h g ↦ rw (whole-cut s _ _ h g) (h, g)
-        | whole h ↦ rw (whole-took s _ _ h) h
-      ]
+  pub age-row : (a : ℕ) → Goes row refuse give o → Goes (notAnAge a ∷ row) refuse give (ifAge a refuse o)
+  unfolding ifAge
+  age-row a g = one-unless (isAge a) Refusal.NotAnAge g
 
-  -- the number that is given says so
-  says : (k : ℕ) → amountOf s .number ≡ k → When k
-  says k e = subst When e when
+-- a call that gives a record
+gives-exactly : {row : List Condition} {n : ℕ} {r : ResTableConfig} {o : ParseOutcome} → Goes row parseRefused (parseTook n r) o → Exactly row (o .tells .number)
+gives-exactly {n = n} {r = r} g = row-exactly (λ (o : ParseOutcome). o .tells .number) parseRefused (parseTook n r) (λ why. refl) refl g
 
-  -- parsing succeeds exactly when T bytes are there
-  pub success-exactly : (amountOf s .number ≡ 0 → taken s ≤ length s) × (taken s ≤ length s → amountOf s .number ≡ 0)
-  success-exactly = (says 0, (λ h. rw (whole-took s _ _ h)))
+-- `amount`: 1, 2
+pub amount-exactly : (s : List ℕ) → AmountRefuses s
+amount-exactly s = told-exactly (whole-row s none-left)
 
-  -- it is refused with 1 exactly when there are fewer than 16 bytes
-  pub one-exactly : (amountOf s .number ≡ 1 → length s < 16) × (length s < 16 → amountOf s .number ≡ 1)
-  one-exactly = (says 1, (λ h. rw (whole-short s _ _ h)))
+-- `parse`: 1, 2
+pub parse-exactly : (s : List ℕ) → ParseRefuses s
+parse-exactly s = gives-exactly (whole-row s none-left)
 
-  -- and with 2 exactly when there are 16 or more, fewer than size
-  pub two-exactly :
-      (amountOf s .number ≡ 2 → (16 ≤ length s) × (length s < sizeOf s)) × ((16 ≤ length s) × (length s < sizeOf s) → amountOf s .number ≡ 2)
-  two-exactly = (says 2, (λ h. rw (whole-cut s _ _ (h .0) (h .1))))
+-- `parse_aged`: 3, 1, 2
+pub aged-exactly : (a : ℕ) (s : List ℕ) → AgedRefuses a s
+aged-exactly a s = gives-exactly (age-row a (whole-row s none-left))
+
+-- parsing succeeds exactly when T bytes are there
+pub success-exactly : (s : List ℕ) → (amountOf s .number ≡ 0) ↔ (taken s ≤ length s)
+success-exactly s = (
+  (λ e. let n = amount-exactly s .succeeds .0 e in omega (arith, ltb-false (length s) 16 (n .0), ltb-false (length s) (sizeOf s) (n .1 .0))),
+  (λ h. ap (λ (t : Told). t .number) (whole-took s _ _ h)),
+)
 
 -- `parse` tells what `amount` tells
 pub parse-tells : (s : List ℕ) → parseOf s .tells ≡ amountOf s
 parse-tells s = whole-map (λ (o : ParseOutcome). o .tells) s _ _
 
--- and so does `parse_aged` at an age; any other number is refused with 3, whatever the bytes are
+-- and so does `parse_aged` at an age
 pub aged-tells : (a : ℕ) (s : List ℕ) → true ≡ isAge a → parseAged a s .tells ≡ amountOf s
 aged-tells a s h = rw (age-known a _ _ h) (whole-map (λ (o : ParseOutcome). o .tells) s _ _)
-
-pub aged-three : (a : ℕ) (s : List ℕ) → false ≡ isAge a → parseAged a s .tells .number ≡ 3
-aged-three a s h = rw (age-unknown a _ _ h)

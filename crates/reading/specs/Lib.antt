@@ -1,1 +1,3 @@
 pub mod Reading
+pub mod Demand1
+pub mod Demand3

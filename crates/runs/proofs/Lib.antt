@@ -1,5 +1,6 @@
 pub mod Rest
 pub mod Steps
+pub mod Exactly
 pub mod Walking
 pub mod Stops
 pub mod Finding

@@ -21,16 +21,9 @@ use Rattle.places.specs.Places.{textOf}
 use Rattle.text.specs.Text.{plainText, agedText}
 use Rattle.text.proofs.Same.{shown-text}
 use Rattle.runs.specs.Runs.{StepOutcome, stepOf}
+use Rattle.runs.specs.Demand3.{Shows, ZeroFrom}
 use Rattle.runs.proofs.Steps.{step-found}
 use Rattle.runs.proofs.Walking.{fits}
-
--- a call that shows a text succeeds
-abbrev pub Shows : Outcome → Type 0
-Shows o = o .tells .number ≡ 0
-
--- every byte of the record at the front of t at or past a is zero
-abbrev pub ZeroFrom : ℕ → List ℕ → Type 0
-ZeroFrom a t = (k : ℕ) → a ≤ k → k < taken t → getD t k 0 ≡ 0
 
 module _ (t : List ℕ) (whole : taken t ≤ length t) where
   pub parse-plain : parseOf t .gives ≡ plain t

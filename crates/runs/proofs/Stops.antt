@@ -6,11 +6,10 @@ use native.Mathlib.Omega.{arith}
 use native.Mathlib.Nat.{le-of-suc-le-suc, not-suc-le-zero}
 use lib.ListN.{length, getD, drop, length-drop}
 use Rattle.answers.specs.declared.Refusal.{Refusal}
-use Rattle.answers.specs.Numbers.{numberOf}
-use Rattle.answers.specs.Tells.{refusal}
 use Rattle.reading.specs.Reading.{amountOf, taken}
 use Rattle.reading.proofs.Whole.{amounts, takes, refuses, whole-short, took-says}
 use Rattle.runs.specs.Runs.{offsetsIn, stopIn, offsetsOf, stopOf, most}
+use Rattle.runs.specs.Stops.{NotWhole, Walked}
 use Rattle.runs.proofs.Walking.{fits, stop-next, stop-here, offset-next, offset-none}
 
 stop-zero : (s : List ℕ) (p : ℕ) → stopIn zero s p ≡ p
@@ -20,11 +19,6 @@ stop-zero s p = refl
 offset-zero : (s : List ℕ) (p : ℕ) → offsetsIn zero s p ≡ []
 unfolding offsetsIn
 offset-zero s p = refl
-
--- no whole record stands at the front of t
-pub record NotWhole (t : List ℕ) : Type 0 where
-  pub why : Refusal
-  pub refused : refusal (numberOf why) ≡ amountOf t
 
 none-at : (s : List ℕ) (p q : ℕ) → p ≡ q → NotWhole (drop q s) → NotWhole (drop p s)
 none-at s p q e n = record { why = n .why; refused = n .refused ∙ ap (λ (m : ℕ). amountOf (drop m s)) (sym e) }
@@ -72,3 +66,7 @@ each-in (suc k) s p i h =
 -- a whole record stands at each of its offsets
 pub each-whole : (s : List ℕ) (p i : ℕ) → i < length (offsetsOf s p) → taken (drop (getD (offsetsOf s p) i 0) s) ≤ length (drop (getD (offsetsOf s p) i 0) s)
 each-whole s p i h = each-in (most s) s p i h
+
+-- the run of s that begins at p
+pub walked : (s : List ℕ) (p : ℕ) → Walked s p
+walked s p = record { each = each-whole s p; stop = stop-not-whole s p; most = few s p }

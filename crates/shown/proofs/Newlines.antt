@@ -16,19 +16,9 @@ use Rattle.reading.proofs.Rows.{in-row}
 use Rattle.record.specs.Table.{part, allZero, startOf, endOf, widthOf}
 use Rattle.marking.specs.Marks.{heldBack, markOf, marksOf}
 use Rattle.places.specs.Places.{textOf}
-use Rattle.shown.specs.Shown.{hexDigits, hexDigit, visible, escaped, escapedAll, shownWords, shownText, newline, space, recordLine}
+use Rattle.shown.specs.Shown.{hexDigits, hexDigit, visible, escaped, escapedAll, shownWords, shownText, space, recordLine}
+use Rattle.shown.specs.Ended.{Unbroken, none, more, Ended}
 use Rattle.shown.proofs.Escapes.{below, escaped-same, escaped-hex}
-
--- no newline
-pub data Unbroken : List ℕ → Type 0 where
-  none : Unbroken []
-  more : {b : ℕ} {w : List ℕ} → (b ≡ 10 → ⊥) → Unbroken w → Unbroken (b ∷ w)
-
--- one newline, at its end
-pub record Ended (w : List ℕ) : Type 0 where
-  pub front : List ℕ
-  pub is : w ≡ front ++ newline
-  pub unbroken : Unbroken front
 
 -- words in a row
 pub both : {u v : List ℕ} → Unbroken u → Unbroken v → Unbroken (u ++ v)

@@ -1,1 +1,3 @@
 pub mod Shown
+pub mod Ended
+pub mod Demand1

@@ -1,22 +1,24 @@
 -- When the writer writes and when it refuses, and with which number. Assumes nothing.
 use Prim.Native.Nat.{ℕ, _≤_, _<_}
 use mathlib.Core.Path.{_≡_, refl, sym, ap, _∙_, subst}
-use mathlib.Core.Bool.{Bool, true, false}
-use mathlib.Core.List.{List, _++_}
+use mathlib.Core.Bool.{true, false}
+use mathlib.Core.List.{List, [], _∷_, _++_}
 use native.Mathlib.Omega.{arith}
-use native.Mathlib.Decide.{decLe}
-use lib.Dec.{eqb}
 use lib.ListN.{length, drop, replicate, length-replicate}
 use lib.Seq.{drop-at}
+use borrow.Author.Tests.{not-false, ltb-false}
 use Rattle.answers.specs.declared.Refusal.{Refusal}
 use Rattle.answers.specs.declared.Written.{Written}
-use Rattle.answers.proofs.Says.{pick}
+use Rattle.answers.proofs.Exactly.{Goes, one-unless}
 use Rattle.buffer.specs.Written.{outcome, written, wrote, refused}
+use Rattle.buffer.specs.Demand1.{shorterThan}
 use Rattle.buffer.proofs.Writing.{written-fits, written-short}
+use Rattle.buffer.proofs.Exactly.{written-row, refuses-by}
 use Rattle.record.specs.Table.{allZero}
 use Rattle.record.specs.declared.ResTableConfig.{ResTableConfig}
 use Rattle.reading.specs.Reading.{reads}
 use Rattle.writing.specs.Writing.{bytesOf, span, shown, keeps, tidy, writeOf, Shaped}
+use Rattle.writing.specs.Demand1.{unreadField, Stray, UntidyWhenStray, WriterRefuses}
 use Rattle.writing.proofs.Below.{or-neither, each-place, each-stop, each-at}
 use Rattle.writing.proofs.Places.{shown-long}
 
@@ -48,32 +50,6 @@ module _ (r : ResTableConfig) (w : Shaped r) (old : List ℕ) (fine : tidy r ≡
       ∙ ap (λ (k : ℕ). outcome (Written.Wrote k) (shown r ++ drop k old)) l
       ∙ sym (wrote-is (omega arith))
 
-module _ (r : ResTableConfig) (w : Shaped r) (old : List ℕ) where
-  -- what each number says of the record and the lent buffer
-  abbrev When : ℕ → Type 0
-  When n =
-      pick (eqb n 0) ((tidy r ≡ true) × (span r ≤ length old)) (pick (eqb n 5) ((tidy r ≡ true) × (length old < span r)) (pick (eqb n 6) (tidy r ≡ false) ⊥))
-
-  when-by : (b : Bool) → tidy r ≡ b → When (writeOf r old .tells .number)
-  when-by false e = rw (unread-is r old e) e
-  when-by true e =
-      elim (decLe (span r) (length old)) [
-        | yes h ↦ rw (wrote-is r w old e h) (e, h)
-        | no h ↦ let l : length old < span r = omega arith in rw (short-is r w old e l) (e, l)
-      ]
-
-  -- the number that is given says so
-  says : (k : ℕ) → writeOf r old .tells .number ≡ k → When k
-  says k e = subst When e (when-by (tidy r) refl)
-
--- a field that isn't read at the record's size and isn't zero
-pub record Stray (r : ResTableConfig) : Type 0 where
-  pub field : ℕ
-  pub within : field < 15
-  pub skipped : reads (r .size) field ≡ false
-  pub filled : allZero (bytesOf r field) ≡ false
-
--- there is one exactly where a record isn't tidy
 stray : (r : ResTableConfig) → tidy r ≡ false → Stray r
 unfolding tidy
 stray r e =
@@ -85,20 +61,27 @@ untidy : (r : ResTableConfig) → Stray r → tidy r ≡ false
 unfolding tidy
 untidy r w = each-stop 15 (keeps r) (w .field) (w .within) (rw (w .skipped) (w .filled))
 
+-- a record isn't tidy exactly when a field that isn't read isn't zero
+pub stray-exactly : (r : ResTableConfig) → UntidyWhenStray r
+stray-exactly r = (stray r, untidy r)
+
 -- in a tidy record a field that isn't read is zero
 pub unread-zero : (r : ResTableConfig) → tidy r ≡ true → (f : ℕ) → f < 15 → reads (r .size) f ≡ false → allZero (bytesOf r f) ≡ true
 unfolding tidy
 unread-zero r fine f h e = rw e at (each-at 15 (keeps r) fine f h)
 
-module _ (r : ResTableConfig) (w : Shaped r) (old : List ℕ) where
-  -- writing is refused with 6 exactly when there is such a field
-  pub six-exactly : (writeOf r old .tells .number ≡ 6 → Stray r) × (Stray r → writeOf r old .tells .number ≡ 6)
-  six-exactly = ((λ e. stray r (says r w old 6 e)), (λ f. rw (unread-is r old (untidy r f))))
+-- the writer goes by 6 and 5
+writer-row : (r : ResTableConfig) → Shaped r → (old : List ℕ) → Goes (unreadField r ∷ shorterThan (span r) old ∷ []) (λ why. refused why old) (wrote (shown r) old) (writeOf r old)
+unfolding writeOf
+writer-row r w old =
+    one-unless (tidy r) Refusal.UnreadField
+    (subst (λ (n : ℕ). Goes (shorterThan n old ∷ []) (λ why. refused why old) (wrote (shown r) old) (written (shown r) old)) (shown-long r w) (written-row (shown r) old))
 
-  -- with 5 exactly when there is none and the lent buffer is shorter than T
-  pub five-exactly : (writeOf r old .tells .number ≡ 5 → (tidy r ≡ true) × (length old < span r)) × ((tidy r ≡ true) × (length old < span r) → writeOf r old .tells .number ≡ 5)
-  five-exactly = (says r w old 5, (λ h. rw (short-is r w old (h .0) (h .1))))
+-- `write`: 6, 5
+pub writer-exactly : (r : ResTableConfig) (old : List ℕ) → WriterRefuses r old
+writer-exactly r old w = refuses-by refl (writer-row r w old)
 
-  -- and it succeeds exactly when there is none and the lent buffer has T bytes
-  pub success-exactly : (writeOf r old .tells .number ≡ 0 → (tidy r ≡ true) × (span r ≤ length old)) × ((tidy r ≡ true) × (span r ≤ length old) → writeOf r old .tells .number ≡ 0)
-  success-exactly = (says r w old 0, (λ h. rw (wrote-is r w old (h .0) (h .1))))
+-- what the writer takes is tidy, and the lent buffer has T bytes
+pub took-tidy : (r : ResTableConfig) → Shaped r → (old : List ℕ) → writeOf r old .tells .number ≡ 0 → (tidy r ≡ true) × (span r ≤ length old)
+took-tidy r w old e =
+    let n = writer-exactly r old w .exactly .succeeds .0 e in (not-false (tidy r) (n .0), ltb-false (length old) (span r) (n .1 .0))

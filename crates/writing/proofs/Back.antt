@@ -15,8 +15,9 @@ use Rattle.reading.specs.Reading.{reads, fieldBy, recordBy, plain, parseOf, par
 use Rattle.reading.proofs.Limits.{start-end}
 use Rattle.reading.proofs.Records.{same}
 use Rattle.reading.proofs.Whole.{whole-took}
-use Rattle.writing.specs.Writing.{bytes4, bytesOf, span, tidy, shown, writeOf, Shaped}
-use Rattle.writing.proofs.Answers.{wrote-is, unread-zero, success-exactly}
+use Rattle.writing.specs.Writing.{bytes4, bytesOf, span, tidy, shown, Shaped}
+use Rattle.writing.specs.Demand2.{ReadsBack}
+use Rattle.writing.proofs.Answers.{wrote-is, unread-zero, took-tidy}
 use Rattle.writing.proofs.Order.{end-within}
 use Rattle.writing.proofs.Places.{bytes-long, shown-in, shown-long}
 use Rattle.writing.proofs.Zeros.{zeros-of}
@@ -107,10 +108,9 @@ pub back : (r : ResTableConfig) → Shaped r → tidy r ≡ true → parseOf (sh
 back r w fine = rw append-nil at (back-behind r w [] fine)
 
 -- a record that is written reads back as itself: from the lent buffer, and from its first T bytes
-pub written-back : (r : ResTableConfig) → Shaped r → (old : List ℕ) → writeOf r old .tells .number ≡ 0
-    → (writeOf r old .tells .amount ≡ span r) × (parseOf (writeOf r old .leaves) ≡ parseTook (span r) r) × (parseOf (take (span r) (writeOf r old .leaves)) ≡ parseTook (span r) r)
-written-back r w old e =
-    let f = success-exactly r w old .0 e in
+pub written-back : ReadsBack
+written-back r old w e =
+    let f = took-tidy r w old e in
     let o = wrote-is r w old (f .0) (f .1) in
     let n = length (shown r) in
     let l = shown-long r w in (

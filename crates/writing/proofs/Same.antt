@@ -3,15 +3,17 @@ use Prim.Native.Nat.{ℕ, _≤_, _<_, _-_, max}
 use mathlib.Core.Path.{_≡_, refl, sym, ap, _∙_}
 use mathlib.Core.Bool.{Bool, true, false, _||_, _&&_, true≢false}
 use mathlib.Core.List.{List}
+use mathlib.Core.Logic.{_↔_}
 use native.Mathlib.Omega.{arith}
 use lib.Dec.{lit<}
 use lib.ListN.{length, getD, take, drop, replicate, length-replicate}
 use lib.Seq.{ext-getD, getD-take, length-take-le, take-at}
-use Rattle.buffer.specs.Written.{Outcome, wrote}
+use Rattle.buffer.specs.Written.{Outcome}
 use Rattle.record.specs.Table.{Bytes, part, le, allZero, startOf, endOf, widthOf, bit}
 use Rattle.reading.specs.Reading.{reads, fieldBy, recordBy, plain, sizeOf, taken}
 use Rattle.reading.proofs.Limits.{start-end}
-use Rattle.writing.specs.Writing.{bytes4, bytesOf, span, inField, decoded, keeps, tidy, shown, writeOf, Shaped, Kept}
+use Rattle.writing.specs.Writing.{bytes4, bytesOf, span, inField, decoded, keeps, tidy, shown, Shaped, Kept}
+use Rattle.writing.specs.Demand2.{SameBytes, WritesBack}
 use Rattle.writing.proofs.Below.{none, _then_, all-at, and-both, Place, some-place, each-here}
 use Rattle.writing.proofs.Zeros.{all-zeros, part-at}
 use Rattle.writing.proofs.Bytes.{part-bytes, zeros-bytes, word-back, yes-back, bit-most}
@@ -149,15 +151,16 @@ module _ (s : List ℕ) (small : Bytes s) (whole : taken s ≤ length s) where
     then-kept = record { skipped = λ k h d. at-place k h ∙ out-none k d; computed = low }
 
   -- the T bytes that the record read from s is written as are those of s exactly when s says no more than the record
-  pub exactly : (shown (plain s) ≡ take (taken s) s → Kept s) × (Kept s → shown (plain s) ≡ take (taken s) s)
+  pub exactly : (shown (plain s) ≡ take (taken s) s) ↔ Kept s
   exactly = (then-kept, kept-then)
 
   -- the same of the writer, with a lent buffer that holds them: it writes T bytes, and they are those of s exactly then
-  pub written-same : (old : List ℕ) → taken s ≤ length old
-      → (writeOf (plain s) old ≡ wrote (shown (plain s)) old)
-      × (take (taken s) (writeOf (plain s) old .leaves) ≡ take (taken s) s → Kept s)
-      × (Kept s → take (taken s) (writeOf (plain s) old .leaves) ≡ take (taken s) s)
+  written-same : (old : List ℕ) → taken s ≤ length old → SameBytes s old
   written-same old h =
       let o = wrote-is (plain s) shaped-read old tidy-read (omega (arith, span-is)) in
       let f = ap (λ (z : Outcome). take (taken s) (z .leaves)) o ∙ take-at (shown (plain s)) (drop (length (shown (plain s))) old) (taken s) out-long in
-      (o, (λ e. then-kept (sym f ∙ e)), (λ w. f ∙ kept-then w))
+      record { takes = o; same = ((λ e. then-kept (sym f ∙ e)), (λ w. f ∙ kept-then w)) }
+
+-- a record's bytes, read and written back
+pub same-back : WritesBack
+same-back s old small whole h = written-same s small whole old h

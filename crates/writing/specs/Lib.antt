@@ -1,1 +1,3 @@
 pub mod Writing
+pub mod Demand1
+pub mod Demand2

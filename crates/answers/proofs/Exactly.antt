@@ -1,0 +1,100 @@
+-- What goes by a row of conditions gives each number exactly under its condition. Assumes nothing.
+use Prim.Native.Nat.{ℕ}
+use mathlib.Core.Path.{_≡_, refl, sym, ap, _∙_}
+use mathlib.Core.Bool.{Bool, true, false, not, cond}
+use mathlib.Core.List.{List, [], _∷_}
+use mathlib.Core.Logic.{_⊎_, inl, inr}
+use native.Mathlib.Omega.{arith}
+use Rattle.answers.specs.declared.Refusal.{Refusal}
+use Rattle.answers.specs.declared.Told.{Told}
+use Rattle.answers.specs.Numbers.{numberOf}
+use Rattle.answers.specs.Tells.{success, refusal}
+use Rattle.answers.specs.Demand1.{Condition, NoneOf, FirstOf, Exactly}
+use Rattle.answers.proofs.OneToOne.{number-one, number-pos}
+
+-- what comes of a row of conditions: the first that holds refuses, and where none does, the call gives
+abbrev pub byRow : {A : Type 0} → List Condition → (Refusal → A) → A → A
+byRow [] refuse give = give
+byRow (c ∷ row) refuse give = cond (c .holds) (refuse (c .why)) (byRow row refuse give)
+
+-- o is what comes of a row
+pub record Goes {A : Type 0} (row : List Condition) (refuse : Refusal → A) (give : A) (o : A) : Type 0 where
+  pub by : o ≡ byRow row refuse give
+
+-- with no condition the call gives
+pub none-left : {A : Type 0} {refuse : Refusal → A} {give : A} → Goes [] refuse give give
+none-left = record { by = refl }
+
+-- a condition before a row
+pub one-more : {A : Type 0} {row : List Condition} {refuse : Refusal → A} {give o : A} (c : Condition) → Goes row refuse give o
+    → Goes (c ∷ row) refuse give (cond (c .holds) (refuse (c .why)) o)
+one-more c g = record { by = rw (g .by) }
+
+turned : {A : Type 0} (test : Bool) (x : A) {y z : A} → y ≡ z → cond test y x ≡ cond (not test) x z
+turned true x e = e
+turned false x e = refl
+
+-- the same of a condition that holds where a test fails
+pub one-unless : {A : Type 0} {row : List Condition} {refuse : Refusal → A} {give o : A} (test : Bool) (why : Refusal) → Goes row refuse give o
+    → Goes (record { holds = not test; why = why } ∷ row) refuse give (cond test o (refuse why))
+one-unless {refuse = refuse} test why g = record { by = turned test (refuse why) (g .by) }
+
+module _ {A : Type 0} (refuse : Refusal → A) (give : A) where
+  first-by : (why : Refusal) (b : Bool) (r : Refusal) (rest : A) {F : Type 0} → (F → rest ≡ refuse why)
+      → ((b ≡ true) × (r ≡ why)) ⊎ ((b ≡ false) × F) → cond b (refuse r) rest ≡ refuse why
+  first-by why b r rest more (inl h) = rw (h .0) (ap refuse (h .1))
+  first-by why b r rest more (inr h) = rw (h .0) (more (h .1))
+
+  -- the first refusal of a row is the one that comes
+  row-first : (why : Refusal) (row : List Condition) → FirstOf why row → byRow row refuse give ≡ refuse why
+  row-first why [] h = absurd h
+  row-first why (c ∷ row) h = first-by why (c .holds) (c .why) (byRow row refuse give) (row-first why row) h
+
+  -- and where no condition holds, the call gives
+  row-none : (row : List Condition) → NoneOf row → byRow row refuse give ≡ give
+  row-none [] h = refl
+  row-none (c ∷ row) h = rw (h .0) (row-none row (h .1))
+
+-- an outcome with a number in it: a refusal's where it refuses, and 0 where it gives
+module _ {A : Type 0} (number : A → ℕ) (refuse : Refusal → A) (give : A) (bad : (why : Refusal) → number (refuse why) ≡ numberOf why) (good : number give ≡ 0) where
+  refused-by : (why : Refusal) (b : Bool) (r : Refusal) (rest : A) {F : Type 0} → (number rest ≡ numberOf why → F)
+      → number (cond b (refuse r) rest) ≡ numberOf why → ((b ≡ true) × (r ≡ why)) ⊎ ((b ≡ false) × F)
+  refused-by why true r rest more e = inl (refl, number-one r why (sym (bad r) ∙ e))
+  refused-by why false r rest more e = inr (refl, more e)
+
+  row-refused : (why : Refusal) (row : List Condition) → number (byRow row refuse give) ≡ numberOf why → FirstOf why row
+  row-refused why [] e = let z = sym good ∙ e in omega (arith, number-pos why)
+  row-refused why (c ∷ row) e = refused-by why (c .holds) (c .why) (byRow row refuse give) (row-refused why row) e
+
+  gave-by : (b : Bool) (r : Refusal) (rest : A) {N : Type 0} → (number rest ≡ 0 → N) → number (cond b (refuse r) rest) ≡ 0 → (b ≡ false) × N
+  gave-by true r rest more e = absurd (let z = sym (bad r) ∙ e in omega (arith, number-pos r))
+  gave-by false r rest more e = (refl, more e)
+
+  row-gave : (row : List Condition) → number (byRow row refuse give) ≡ 0 → NoneOf row
+  row-gave [] e = tt
+  row-gave (c ∷ row) e = gave-by (c .holds) (c .why) (byRow row refuse give) (row-gave row) e
+
+  stays-by : (P : A → Type 0) → ((why : Refusal) → P (refuse why)) → (b : Bool) (r : Refusal) (rest : A) → ((number rest ≡ 0 → ⊥) → P rest)
+      → (number (cond b (refuse r) rest) ≡ 0 → ⊥) → P (cond b (refuse r) rest)
+  stays-by P p true r rest more d = p r
+  stays-by P p false r rest more d = more d
+
+  stays : (P : A → Type 0) → ((why : Refusal) → P (refuse why)) → (row : List Condition) → (number (byRow row refuse give) ≡ 0 → ⊥) → P (byRow row refuse give)
+  stays P p [] d = absurd (d good)
+  stays P p (c ∷ row) d = stays-by P p (c .holds) (c .why) (byRow row refuse give) (stays P p row) d
+
+  -- each number exactly under its condition
+  pub row-exactly : {row : List Condition} {o : A} → Goes row refuse give o → Exactly row (number o)
+  row-exactly {row} g =
+      rw (g .by) (record {
+        refuses = λ why. (row-refused why row, (λ h. ap number (row-first refuse give why row h) ∙ bad why));
+        succeeds = (row-gave row, (λ h. ap number (row-none refuse give row h) ∙ good));
+      })
+
+  -- what holds of every refusal holds of the outcome unless it succeeded
+  pub row-stays : {row : List Condition} {o : A} → Goes row refuse give o → (P : A → Type 0) → ((why : Refusal) → P (refuse why)) → (number o ≡ 0 → ⊥) → P o
+  row-stays {row} g P p = rw (g .by) (stays P p row)
+
+-- of a call that answers by what is told
+pub told-exactly : {row : List Condition} {n : ℕ} {t : Told} → Goes row (λ why. refusal (numberOf why)) (success n) t → Exactly row (t .number)
+told-exactly {n = n} g = row-exactly (λ (t : Told). t .number) (λ why. refusal (numberOf why)) (success n) (λ why. refl) refl g
