@@ -5,6 +5,7 @@ mod payloads;
 mod questions;
 mod records;
 mod scale;
+mod sheets;
 mod shim;
 mod spellings;
 mod subject;
