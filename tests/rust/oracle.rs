@@ -4,6 +4,7 @@ mod listing;
 mod payloads;
 mod questions;
 mod records;
+mod runs;
 mod scale;
 mod sheets;
 mod shim;
