@@ -1,8 +1,10 @@
 //! The questions on 000's flags and on its sixteen kinds.
 use crate::questions::Asked;
+use crate::sheets::SHEET;
 use crate::subject::*;
 
-/// The kinds of question of this file. A payload is a number of two bytes, or of one where a row of the flags is asked.
+/// The kinds of question of this file, and the one on sheets. A payload is a number of two bytes, or of one where a row of the
+/// flags is asked; a sheet's is a record.
 pub const ASKED: &[Asked] = &[
     kind!(0, u8, GrammaticalGender: Neuter, Feminine, Masculine, Any),
     kind!(1, u8, LayoutDir: Ltr, Rtl, Any(v)),
@@ -37,7 +39,15 @@ pub const ASKED: &[Asked] = &[
         fixed: u16::few,
         answer: |n| u16::from(Density::from(number(n))).to_le_bytes().to_vec(),
     },
+    SHEET,
 ];
+
+/// What 000 makes of a number for one of the sixteen, counted from 0: the case with what it holds, and the words.
+pub fn kind_of(at: usize, number: u16) -> (Vec<u8>, String) {
+    let mut case = (ASKED[at].answer)(&number.to_le_bytes());
+    let words = case.split_off(3);
+    (case, String::from_utf8(words).expect("words are UTF-8"))
+}
 
 /// A row for one of the sixteen, its cases in their order of declaration: the answer is the case, what it holds or 0, the words.
 macro_rules! kind {

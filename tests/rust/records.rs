@@ -1,10 +1,11 @@
 //! The questions on records: reading, the accessors, a new density, equality and order, and what the writer gives back.
 use crate::payloads::{all_of, few_of, parts, ACCESSED, DENSITIES, ENDS, PAIRS, RECORDS};
 use crate::questions::Asked;
+use crate::runs::{HELD_BACK, MARKS_AT, READ_AT, SOUGHT, STEP_AT, TEXT_AT};
 use crate::subject::*;
 use std::cmp::Ordering;
 
-/// The kinds of question of this file. Bytes that hold no whole record are answered by `REFUSED` alone.
+/// The kinds of question of this file, and those on a place of a run. Bytes that hold no whole record are answered by `REFUSED` alone.
 pub const ASKED: &[Asked] = &[
     Asked {
         tag: 32,
@@ -51,6 +52,12 @@ pub const ASKED: &[Asked] = &[
         fixed: || few_of(RECORDS, 4),
         answer: |bytes| told(taken(bytes).map(|(record, _)| written(&record))),
     },
+    STEP_AT,
+    READ_AT,
+    SOUGHT,
+    HELD_BACK,
+    TEXT_AT,
+    MARKS_AT,
 ];
 
 /// The answer where there is no whole record: the Rust has one error, and not 01's 1 and 2.

@@ -1,7 +1,7 @@
 //! The comparison at scale. `ask` writes questions, the driver tests/c/scale.c makes the port's calls and writes what came of
 //! them, and `check`, which makes the same questions again, holds every answer and every lent byte to 000 and to 01's rules.
-mod expected;
-mod inputs;
+pub mod expected;
+pub mod inputs;
 mod mutations;
 mod tally;
 

@@ -1,4 +1,5 @@
 //! What the questions on texts are asked about: every value that a text says, and bytes that may or may not be UTF-8.
+use crate::listing::MOST;
 use crate::payloads::{declare, declared, many, one, usual, Maker};
 use crate::questions::Random;
 use std::ops::Range;
@@ -310,10 +311,24 @@ fn random_bytes(random: &mut Random) -> Vec<Vec<u8>> {
     })
 }
 
-/// 4096 bytes: of one value, of any classes, and random.
+/// Up to 65,536 bytes: of one value, of one sequence, of any classes, and random; each as it is, and with NULs for its end. The
+/// sequences are a character of each length, one that is cut, and one that is too high; the last may be cut by the end.
 fn long(random: &mut Random) -> Vec<Vec<u8>> {
-    let mut made: Vec<_> = [0x00, 0x41, 0x80, 0xf1].map(|byte| vec![byte; 4096]).into();
-    made.extend(many(8, random, |random| (0..4096).map(|_| any_class(random)).collect()));
-    made.extend(many(8, random, |random| random.bytes(4096)));
+    let repeated: [&[u8]; 7] = [b"\x00", b"A", b"\x80", b"\xf1", "Aé€𐍈".as_bytes(), b"\xe2\x82", b"\xf4\x90\x80\x80"];
+    let mut made = Vec::new();
+    for length in [4096, 4096 + random.below(MOST - 4096), MOST - 1, MOST] {
+        let cycled = repeated.iter().map(|word| word.iter().copied().cycle().take(length).collect());
+        let mut words: Vec<Vec<u8>> = cycled.collect();
+        words.extend(many(3, random, |random| (0..MOST).map(|_| any_class(random)).collect()));
+        words.extend(many(3, random, |random| random.bytes(MOST)));
+        for mut word in words {
+            word.truncate(length);
+            made.push(word.clone());
+            let any = random.below(length);
+            let end = one(random, &[0, 1, length / 2, length - 1, any]);
+            word[end..].fill(0);
+            made.push(word);
+        }
+    }
     made
 }

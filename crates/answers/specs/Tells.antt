@@ -5,11 +5,11 @@ use Rattle.answers.specs.declared.Taken.{Taken}
 use Rattle.answers.specs.declared.Written.{Written}
 use Rattle.answers.specs.Numbers.{numberOf}
 
--- a success: 0, and how many bytes were taken or written
+-- a success: 0, and an amount: the bytes taken or written, or what the definition for the answer says
 abbrev pub success : ℕ → Told
 success amount = record { number = 0; amount = amount }
 
--- a refusal: its number, and no byte
+-- a refusal: its number, and amount 0
 abbrev pub refusal : ℕ → Told
 refusal number = record { number = number; amount = 0 }
 

@@ -21,7 +21,8 @@ pub enum Refusal {
     TooMuchInput,
 }
 
-// What an answer says in 01's numbers: 0 for a success, and the bytes taken or written; a refusal's number, and no byte.
+// What an answer says in 01's numbers. A success has number 0 and an amount: the bytes taken or written, or what its answer enum says, as
+// the order of two records or whether one is held back. A refusal has its number, and amount 0.
 pub struct Told {
     pub number: u32,
     pub amount: usize,

@@ -3,6 +3,7 @@ mod hex;
 mod numbers;
 
 pub use hex::line;
+pub use numbers::eight;
 pub use numbers::four;
 pub use numbers::put_four;
 pub use numbers::put_two;

@@ -19,6 +19,16 @@ pub fn four(bytes: &[u8]) -> usize
     byte(bytes, 0) + 256 * (byte(bytes, 1) + 256 * (byte(bytes, 2) + 256 * byte(bytes, 3)))
 }
 
+// The number of the eight bytes at the front; 0 stands for a byte that isn't there.
+pub fn eight(bytes: &[u8]) -> usize
+    ensures { λ r. ⌜ r ≡ numberOf 8 (now (bytes .entry)) 0 ⌝ }
+{
+    let high = byte(bytes, 4)
+        + 256 * (byte(bytes, 5) + 256 * (byte(bytes, 6) + 256 * byte(bytes, 7)));
+    byte(bytes, 0)
+        + 256 * (byte(bytes, 1) + 256 * (byte(bytes, 2) + 256 * (byte(bytes, 3) + 256 * high)))
+}
+
 // The byte at a place; 0 past the end.
 fn byte(bytes: &[u8], at: usize) -> usize
     ensures { λ r. ⌜ (r ≡ getD (now (bytes .entry)) at 0) × (r < 256) ⌝ }

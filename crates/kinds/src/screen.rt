@@ -150,7 +150,7 @@ impl Orientation {
     }
 }
 
-// Dots per inch: seven by name, two that are no count, any other as it is.
+// Dots per inch: seven by name, any other as it is; and three that are no count, of which Default alone has no words.
 pub enum Density {
     Default,
     Low,

@@ -113,7 +113,7 @@ pub(crate) fn wide_color_gamut_place(out: &mut [u8], at: usize, n: u8) -> usize
     }
 }
 
-// The place of a Hdr.
+// The place of an Hdr.
 pub(crate) fn hdr_place(out: &mut [u8], at: usize, n: u8) -> usize
     ensures { λ r. ⌜ Says (now (out .entry)) at (kindPlace (Kind.Hdr (hdrOf n)) ∷ []) (now (out .exit)) r ⌝ }
 {

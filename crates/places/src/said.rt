@@ -88,7 +88,7 @@ pub(crate) fn wide_color_gamut_said(kind: WideColorGamut) -> bool
     }
 }
 
-// A Hdr is said unless it is Any.
+// An Hdr is said unless it is Any.
 pub(crate) fn hdr_said(kind: Hdr) -> bool
     ensures { λ r. ⌜ r ≡ hdrSaid kind ⌝ }
 {
@@ -99,7 +99,7 @@ pub(crate) fn hdr_said(kind: Hdr) -> bool
     }
 }
 
-// A Orientation is said unless it is Any.
+// An Orientation is said unless it is Any.
 pub(crate) fn orientation_said(kind: Orientation) -> bool
     ensures { λ r. ⌜ r ≡ orientationSaid kind ⌝ }
 {

@@ -36,7 +36,10 @@ impl<'a> RunReader<'a> {
     pub fn next(self) -> Stepped
         ensures { λ r. ⌜ stepOutcome r ≡ stepOf (self .entry .age .0) (now (self .entry .bytes)) (self .entry .place) ⌝ }
     {
-        step_at(self.bytes, self.place, self.age)
+        let bytes = self.bytes;
+        let place = self.place;
+        let age = self.age;
+        step_at(bytes, place, age)
     }
 
     // The same reader at another place.

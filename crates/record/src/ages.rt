@@ -80,3 +80,19 @@ impl Age {
         }
     }
 }
+
+// Holds each constant to the number in its name, for whoever reads the constants: it does nothing.
+fn named()
+    ensures { λ _. do ⌜ (← ⟦Age::A16.0⟧ .entry) ≡ 16 ⌝ }
+    ensures { λ _. do ⌜ (← ⟦Age::A20.0⟧ .entry) ≡ 20 ⌝ }
+    ensures { λ _. do ⌜ (← ⟦Age::A24.0⟧ .entry) ≡ 24 ⌝ }
+    ensures { λ _. do ⌜ (← ⟦Age::A28.0⟧ .entry) ≡ 28 ⌝ }
+    ensures { λ _. do ⌜ (← ⟦Age::A32.0⟧ .entry) ≡ 32 ⌝ }
+    ensures { λ _. do ⌜ (← ⟦Age::A36.0⟧ .entry) ≡ 36 ⌝ }
+    ensures { λ _. do ⌜ (← ⟦Age::A40.0⟧ .entry) ≡ 40 ⌝ }
+    ensures { λ _. do ⌜ (← ⟦Age::A48.0⟧ .entry) ≡ 48 ⌝ }
+    ensures { λ _. do ⌜ (← ⟦Age::A52.0⟧ .entry) ≡ 52 ⌝ }
+    ensures { λ _. do ⌜ (← ⟦Age::A53.0⟧ .entry) ≡ 53 ⌝ }
+    ensures { λ _. do ⌜ (← ⟦Age::A61.0⟧ .entry) ≡ 61 ⌝ }
+    ensures { λ _. do ⌜ (← ⟦Age::A64.0⟧ .entry) ≡ 64 ⌝ }
+{}

@@ -1,5 +1,6 @@
 // What the port answers to each kind of question on the flags and on the sixteen kinds, by its tag. The table of tests/rust
 // has the same tags.
+use crate::sheets;
 use answers::Written;
 use flags::ResTableConfigFlags;
 use kinds::Density;
@@ -21,7 +22,7 @@ use kinds::UIModeNight;
 use kinds::WideColorGamut;
 
 // Which case a kind is, in 000's order of declaration, and the number that the case holds, 0 where it holds none.
-struct Case(u8, u16);
+pub(crate) struct Case(u8, u16);
 
 // Answers a question at the front of `out`, and gives the answer's length. A tag that is none of these has no answer.
 pub(crate) fn answer(tag: u8, payload: &[u8], out: &mut [u8]) -> usize {
@@ -29,6 +30,7 @@ pub(crate) fn answer(tag: u8, payload: &[u8], out: &mut [u8]) -> usize {
         0..=15 => kind(tag, frames::two(payload), out),
         16 => flag(frames::two(payload), out),
         17 => density_and_back(frames::two(payload), out),
+        18 => sheets::answer(payload, out),
         _ => 0,
     }
 }
@@ -47,10 +49,14 @@ fn density_and_back(n: u16, out: &mut [u8]) -> usize {
 // The answer on the kind that a tag names, made of a number: its case, what the case holds, its words.
 fn kind(tag: u8, n: u16, out: &mut [u8]) -> usize {
     let kind = kind_of(tag, n);
-    let case = case_of(kind);
-    let at = buffer::put_byte(out, 0, case.0);
-    let at = frames::put_two(out, at, case.1);
+    let at = put_case(out, 0, case_of(kind));
     put_words(out, at, kind)
+}
+
+// Puts a case and what it holds.
+pub(crate) fn put_case(out: &mut [u8], at: usize, case: Case) -> usize {
+    let at = buffer::put_byte(out, at, case.0);
+    frames::put_two(out, at, case.1)
 }
 
 // The kind that a tag names, made of a number.
@@ -110,7 +116,7 @@ fn put_words(out: &mut [u8], at: usize, kind: Kind) -> usize {
 }
 
 // Which case of `GrammaticalGender`.
-fn gender(k: GrammaticalGender) -> Case {
+pub(crate) fn gender(k: GrammaticalGender) -> Case {
     match k {
         GrammaticalGender::Neuter => Case(0, 0),
         GrammaticalGender::Feminine => Case(1, 0),
@@ -120,7 +126,7 @@ fn gender(k: GrammaticalGender) -> Case {
 }
 
 // Which case of `LayoutDir`.
-fn layout_dir(k: LayoutDir) -> Case {
+pub(crate) fn layout_dir(k: LayoutDir) -> Case {
     match k {
         LayoutDir::Ltr => Case(0, 0),
         LayoutDir::Rtl => Case(1, 0),
@@ -129,7 +135,7 @@ fn layout_dir(k: LayoutDir) -> Case {
 }
 
 // Which case of `ScreenSize`.
-fn screen_size(k: ScreenSize) -> Case {
+pub(crate) fn screen_size(k: ScreenSize) -> Case {
     match k {
         ScreenSize::Small => Case(0, 0),
         ScreenSize::Normal => Case(1, 0),
@@ -140,7 +146,7 @@ fn screen_size(k: ScreenSize) -> Case {
 }
 
 // Which case of `ScreenLong`.
-fn screen_long(k: ScreenLong) -> Case {
+pub(crate) fn screen_long(k: ScreenLong) -> Case {
     match k {
         ScreenLong::No => Case(0, 0),
         ScreenLong::Yes => Case(1, 0),
@@ -149,7 +155,7 @@ fn screen_long(k: ScreenLong) -> Case {
 }
 
 // Which case of `ScreenRound`.
-fn screen_round(k: ScreenRound) -> Case {
+pub(crate) fn screen_round(k: ScreenRound) -> Case {
     match k {
         ScreenRound::No => Case(0, 0),
         ScreenRound::Yes => Case(1, 0),
@@ -158,7 +164,7 @@ fn screen_round(k: ScreenRound) -> Case {
 }
 
 // Which case of `WideColorGamut`.
-fn wide_color_gamut(k: WideColorGamut) -> Case {
+pub(crate) fn wide_color_gamut(k: WideColorGamut) -> Case {
     match k {
         WideColorGamut::No => Case(0, 0),
         WideColorGamut::Yes => Case(1, 0),
@@ -167,7 +173,7 @@ fn wide_color_gamut(k: WideColorGamut) -> Case {
 }
 
 // Which case of `Hdr`.
-fn hdr(k: Hdr) -> Case {
+pub(crate) fn hdr(k: Hdr) -> Case {
     match k {
         Hdr::No => Case(0, 0),
         Hdr::Yes => Case(1, 0),
@@ -176,7 +182,7 @@ fn hdr(k: Hdr) -> Case {
 }
 
 // Which case of `Orientation`.
-fn orientation(k: Orientation) -> Case {
+pub(crate) fn orientation(k: Orientation) -> Case {
     match k {
         Orientation::Any => Case(0, 0),
         Orientation::Port => Case(1, 0),
@@ -187,7 +193,7 @@ fn orientation(k: Orientation) -> Case {
 }
 
 // Which case of `UIMode`.
-fn ui_mode(k: UIMode) -> Case {
+pub(crate) fn ui_mode(k: UIMode) -> Case {
     match k {
         UIMode::Any => Case(0, 0),
         UIMode::Normal => Case(1, 0),
@@ -202,7 +208,7 @@ fn ui_mode(k: UIMode) -> Case {
 }
 
 // Which case of `UIModeNight`.
-fn ui_mode_night(k: UIModeNight) -> Case {
+pub(crate) fn ui_mode_night(k: UIModeNight) -> Case {
     match k {
         UIModeNight::Any => Case(0, 0),
         UIModeNight::No => Case(1, 0),
@@ -212,7 +218,7 @@ fn ui_mode_night(k: UIModeNight) -> Case {
 }
 
 // Which case of `Density`.
-fn density(k: Density) -> Case {
+pub(crate) fn density(k: Density) -> Case {
     match k {
         Density::Default => Case(0, 0),
         Density::Low => Case(1, 0),
@@ -229,7 +235,7 @@ fn density(k: Density) -> Case {
 }
 
 // Which case of `Touchscreen`.
-fn touchscreen(k: Touchscreen) -> Case {
+pub(crate) fn touchscreen(k: Touchscreen) -> Case {
     match k {
         Touchscreen::Any => Case(0, 0),
         Touchscreen::NoTouch => Case(1, 0),
@@ -240,7 +246,7 @@ fn touchscreen(k: Touchscreen) -> Case {
 }
 
 // Which case of `KeysHidden`.
-fn keys_hidden(k: KeysHidden) -> Case {
+pub(crate) fn keys_hidden(k: KeysHidden) -> Case {
     match k {
         KeysHidden::Any => Case(0, 0),
         KeysHidden::No => Case(1, 0),
@@ -250,7 +256,7 @@ fn keys_hidden(k: KeysHidden) -> Case {
 }
 
 // Which case of `Keyboard`.
-fn keyboard(k: Keyboard) -> Case {
+pub(crate) fn keyboard(k: Keyboard) -> Case {
     match k {
         Keyboard::Any => Case(0, 0),
         Keyboard::NoKeys => Case(1, 0),
@@ -261,7 +267,7 @@ fn keyboard(k: Keyboard) -> Case {
 }
 
 // Which case of `NavHidden`.
-fn nav_hidden(k: NavHidden) -> Case {
+pub(crate) fn nav_hidden(k: NavHidden) -> Case {
     match k {
         NavHidden::Any => Case(0, 0),
         NavHidden::No => Case(1, 0),
@@ -271,7 +277,7 @@ fn nav_hidden(k: NavHidden) -> Case {
 }
 
 // Which case of `Navigation`.
-fn navigation(k: Navigation) -> Case {
+pub(crate) fn navigation(k: Navigation) -> Case {
     match k {
         Navigation::Any => Case(0, 0),
         Navigation::NoNav => Case(1, 0),

@@ -1,7 +1,8 @@
-// Answers the questions of tests/ on the flags and the kinds for the port: reads framed questions (tag, length in four
-// bytes, payload) from standard input, and writes each answer to standard output as a line of lowercase hexadecimal
+// Answers the questions of tests/ on the flags, the kinds and the sheet for the port: reads framed questions (tag, length in
+// four bytes, payload) from standard input, and writes each answer to standard output as a line of lowercase hexadecimal
 // digits. The Rust of 000 answers the same questions beside it.
 mod cases;
+mod sheets;
 
 use libc::STDIN_FILENO;
 use libc::STDOUT_FILENO;

@@ -1,6 +1,7 @@
-// Answers the questions of tests/ on records for the port: reads framed questions (tag, length in four bytes, payload)
-// from standard input, and writes each answer to standard output as a line of lowercase hexadecimal digits. The Rust of
+// Answers the questions of tests/ on records and runs for the port: reads framed questions (tag, length in four bytes,
+// payload) from standard input, and writes each answer to standard output as a line of lowercase hexadecimal digits. The Rust of
 // 000 answers the same questions beside it.
+mod placed;
 mod records;
 
 use libc::STDIN_FILENO;
@@ -36,10 +37,10 @@ fn turn(payload: &mut [u8], answer: &mut [u8], line: &mut [u8]) -> bool {
     said(answer, end, line)
 }
 
-// Lends the buffers: a payload of 65,536 bytes and some more, an answer as long, and its line. Nothing says that the input
-// ends, so the turns are counted, down from more than any run has.
+// Lends the buffers: a payload of 65,536 bytes with as many lent as a question has and some more, an answer of 65,536, and its
+// line. Nothing says that the input ends, so the turns are counted, down from more than any run has.
 fn main() {
-    let mut payload = [0u8; 65792];
+    let mut payload = [0u8; 73728];
     let mut answer = [0u8; 65792];
     let mut line = [0u8; 131585];
     let mut turns = u32::MAX;

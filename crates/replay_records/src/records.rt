@@ -1,4 +1,5 @@
 // What the port answers to each kind of question on records, by its tag. The table of tests/rust has the same tags.
+use crate::placed;
 use answers::Taken;
 use answers::Written;
 use kinds::Density;
@@ -16,7 +17,7 @@ pub(crate) fn answer(tag: u8, payload: &[u8], out: &mut [u8]) -> usize {
         34 => set_density(payload, out),
         35 => compare(payload, out),
         36 => written_back(payload, out),
-        _ => 0,
+        _ => placed::answer(tag, payload, out),
     }
 }
 
@@ -146,13 +147,13 @@ fn order_number(ordering: Ordering) -> u8 {
 }
 
 // Puts an amount in eight bytes.
-fn put_amount(out: &mut [u8], at: usize, amount: usize) -> usize {
+pub(crate) fn put_amount(out: &mut [u8], at: usize, amount: usize) -> usize {
     let at = frames::put_four(out, at, (amount % 4294967296) as u32);
     frames::put_four(out, at, (amount / 4294967296) as u32)
 }
 
 // Puts the fifteen fields in their order.
-fn put_fields(out: &mut [u8], at: usize, r: ResTableConfig) -> usize {
+pub(crate) fn put_fields(out: &mut [u8], at: usize, r: ResTableConfig) -> usize {
     let at = put_first(out, at, r);
     let at = put_words(out, at, r);
     let at = put_locale(out, at, r);

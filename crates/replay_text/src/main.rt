@@ -36,12 +36,12 @@ fn turn(payload: &mut [u8], answer: &mut [u8], line: &mut [u8]) -> bool {
     said(answer, end, line)
 }
 
-// Lends the buffers: a payload of 65,536 bytes and some more, an answer as long, and its line. Nothing says that the input
-// ends, so the turns are counted, down from more than any run has.
+// Lends the buffers: a payload of 65,536 bytes and some more, an answer that has three bytes for each of them, and its line.
+// Nothing says that the input ends, so the turns are counted, down from more than any run has.
 fn main() {
     let mut payload = [0u8; 65792];
-    let mut answer = [0u8; 65792];
-    let mut line = [0u8; 131585];
+    let mut answer = [0u8; 197376];
+    let mut line = [0u8; 394753];
     let mut turns = u32::MAX;
     while turns > 0 && turn(&mut payload, &mut answer, &mut line) {
         turns -= 1;

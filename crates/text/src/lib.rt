@@ -34,7 +34,7 @@ pub fn plain_text(bytes: &[u8], out: &mut [u8]) -> Written
     ensures { λ r. ⌜ outcome r (now (out .exit)) ≡ plainText (now (bytes .entry)) (now (out .entry)) ⌝ }
 {
     match amount(bytes) {
-        Taken::Refused(why) => Written::Refused(why),
+        Taken::Refused(refusal) => Written::Refused(refusal),
         Taken::Took(_) => {
             let parsed = parse(bytes);
             let record = parsed.record;

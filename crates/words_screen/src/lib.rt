@@ -22,7 +22,7 @@ pub fn put_wide_color_gamut(out: &mut [u8], at: usize, kind: WideColorGamut) -> 
     }
 }
 
-// Puts the words of a Hdr.
+// Puts the words of an Hdr.
 pub fn put_hdr(out: &mut [u8], at: usize, kind: Hdr) -> usize
     ensures { λ r. ⌜ Put (now (out .entry)) at (hdrWords kind) (now (out .exit)) r ⌝ }
 {

@@ -32,12 +32,12 @@ fn told(number: u32, amount: u64) -> Outcome {
 }
 
 /// The record at the front of some bytes and how many it takes, by 000; where 000 has an error, 01's 1 or 2.
-fn whole(bytes: &[u8]) -> Result<(ResTableConfig, usize), u32> {
+pub fn whole(bytes: &[u8]) -> Result<(ResTableConfig, usize), u32> {
     taken(bytes).ok_or(if bytes.len() < 16 { 1 } else { 2 })
 }
 
 /// An age, or 3.
-fn age(number: u32) -> Result<usize, u32> {
+pub fn age(number: u32) -> Result<usize, u32> {
     ENDS[3..].iter().copied().find(|end| *end == number as usize).ok_or(3)
 }
 

@@ -48,7 +48,7 @@ const GO_TO: [Call; 16] = [
 const LARGE: [usize; 8] = [344, 345, 1066, 1100, 1101, 1102, 2048, 4096];
 
 /// Ages that are none.
-const NO_AGES: [u32; 18] =
+pub const NO_AGES: [u32; 18] =
     [0, 1, 4, 8, 12, 15, 17, 33, 42, 44, 56, 63, 65, 128, 256 + 64, 65536 + 16, 1 << 31, u32::MAX];
 
 /// What inputs are taken for.
@@ -100,7 +100,7 @@ fn of_run(random: &mut Random) -> Vec<u8> {
 }
 
 /// A run of up to 24 records, one in four of them cut.
-fn run(random: &mut Random) -> Vec<u8> {
+pub fn run(random: &mut Random) -> Vec<u8> {
     let mut bytes: Vec<u8> = (0..random.below(25)).flat_map(|_| of_run(random)).collect();
     if random.below(4) == 0 {
         bytes.truncate(random.below(bytes.len() + 1));
@@ -120,7 +120,7 @@ fn run_of(random: &mut Random, length: usize) -> Vec<u8> {
 }
 
 /// A run of up to 65,536 bytes; one in four has just as many.
-fn long_run(random: &mut Random) -> Vec<u8> {
+pub fn long_run(random: &mut Random) -> Vec<u8> {
     let any = 1024 + random.below(MOST - 1024);
     let length = one(random, &[any, any, MOST - 1, MOST]);
     run_of(random, length)
@@ -191,7 +191,7 @@ impl Source for Made {
 pub fn question(random: &mut Random, sort: usize, call: Call, first: Vec<u8>, second: Vec<u8>) -> Question {
     let number = match call {
         Call::Write => size(random, &first),
-        _ => age(random),
+        _ => any_age(random),
     };
     let (index, place) = match call {
         Call::Line | Call::Next | Call::Walk | Call::Records => cursor(random, &first),
@@ -206,7 +206,7 @@ pub fn question(random: &mut Random, sort: usize, call: Call, first: Vec<u8>, se
 }
 
 /// An age, and one in six times another number.
-fn age(random: &mut Random) -> u32 {
+pub fn any_age(random: &mut Random) -> u32 {
     match random.below(12) {
         0 => one(random, &NO_AGES),
         1 => random.next() as u32,
@@ -228,7 +228,7 @@ fn size(random: &mut Random, bytes: &[u8]) -> u32 {
 }
 
 /// A record's index and place in a run: mostly one that a listing has, else any place, one past the bytes, or one of no listing.
-fn cursor(random: &mut Random, bytes: &[u8]) -> (u64, u64) {
+pub fn cursor(random: &mut Random, bytes: &[u8]) -> (u64, u64) {
     match random.below(16) {
         0..=9 => {
             let (mut index, mut place) = (0, 0);
@@ -250,7 +250,7 @@ fn cursor(random: &mut Random, bytes: &[u8]) -> (u64, u64) {
 }
 
 /// What is lent for a call that is to write something.
-fn room(random: &mut Random, wanted: &Wanted) -> (Room, usize) {
+pub fn room(random: &mut Random, wanted: &Wanted) -> (Room, usize) {
     let length = match wanted {
         Ok(bytes) => bytes.len(),
         Err(_) => one(random, &[1, 14, 16, 60, 344]),

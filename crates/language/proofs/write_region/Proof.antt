@@ -1,5 +1,6 @@
 -- The words are put together in a buffer of its own, which holds them, and written. Assumes nothing.
 use mathlib.Core.Path.{sym, _∙_}
+use native.Mathlib.Omega.{arith}
 use lib.Seq.{length-take-le}
 use Rattle.buffer.proofs.Putting.{put-most}
 use Rattle.buffer.proofs.Writing.{copied}
@@ -8,6 +9,12 @@ use borrow.Author.Needs.{needs}
 use Rattle.language.proofs.write_region.Statement.{statement}
 use Rattle.language.proofs.write_region.Tie as tie
 
+returns : tie.Need-returns
+returns c =
+    let s = c .before .before .before .before .before .before .before .before .before in
+    let l = region-long (s .args .a) (s .args .b) (search needs) in
+    c .before .before .write .ensures ∙ copied _ (omega (arith, l)) (c .before .before .before .before .before .before .put-region .ensures)
+
 pub write-region-spec : {M : Type 1} → statement M
 write-region-spec =
     tie.close
@@ -15,4 +22,4 @@ write-region-spec =
     (λ c. search needs) (λ c κs. tt) (λ c. put-most (c .before .before .put-region .ensures) (search needs) .1)
     (λ c. sym (length-take-le _ _ (put-most (c .before .before .before .put-region .ensures) (search needs) .1))) (λ c κs. tt)
     (λ c. search needs)
-    (λ c. c .before .before .write .ensures ∙ copied _ (region-long _ (c .before .before .before .before .before .before .before .before .before .args .b) (search needs)) (c .before .before .before .before .before .before .put-region .ensures)))
+    returns)

@@ -15,7 +15,8 @@ returns : tie.Need-returns
 unfolding ageLine
 returns c =
     let a = c .before .before .before .before .before .before .before .before .before .before .before .before .args .age .0 in
-    c .before .before .write .ensures ∙ copied _ (age-long 9 a (decimal-long 9 a (omega arith))) (c .before .before .before .before .before .before .put-between .ensures)
+    let l = age-long 9 a (decimal-long 9 a (omega arith)) in
+    c .before .before .write .ensures ∙ copied _ (omega (arith, l)) (c .before .before .before .before .before .before .put-between .ensures)
 
 pub age-line-spec : {M : Type 1} → statement M
 age-line-spec =

@@ -19,8 +19,9 @@ returns c =
     let n = s .args .number in
     let a = c .before .before .before .before .before .before .before .before .before .before .before .before .put-between .ensures in
     let b = c .before .before .before .before .before .before .before .before .before .put-decimal .ensures in
+    let l = stop-long 19 9 p n (decimal-long 19 p (omega arith)) (decimal-long 9 n (omega arith)) in
     c .before .before .write .ensures
-    ∙ copied _ (stop-long 19 9 p n (decimal-long 19 p (omega arith)) (decimal-long 9 n (omega arith))) (put-put (put-put a b) (c .before .before .before .before .before .before .put-byte .ensures))
+    ∙ copied _ (omega (arith, l)) (put-put (put-put a b) (c .before .before .before .before .before .before .put-byte .ensures))
 
 pub stop-line-spec : {M : Type 1} → statement M
 stop-line-spec =

@@ -22,7 +22,7 @@ use denote.Triple.Entry.{onEntry}
 use denote.Triple.Statement.{Triple}
 use denote.Triple.Table.{cited}
 use Rattle.reader.specs.declared.RunReader.{RunReader}
-use Rattle.reader.proofs.ByHand.{Ensures, Fact, Promised, Quiet, Walk, leaves, asks, var, stores, gone, framed, kept}
+use Rattle.reader.proofs.ByHand.{Ensures, Fact, Promised, Quiet, Walk, leaves, asks, var, operand, stores, gone, framed, kept}
 use Rattle.reader.proofs.ReaderLaws.{Row, Steps, machineOf, madeOf, Apart, fields-known}
 use Rattle.runs.proofs.Stepped as S
 use Rattle.runs.proofs.Stepped.Laws as S′
@@ -62,7 +62,7 @@ module _ {M : Type 1} (𝓤 : URA M) (H : Heap 𝓤) (A : Atoms 𝓤) (mem : Mem
         alloc1 ! (λ l₀. alloc1 ! (λ l₁. alloc1 ! (λ l₂. alloc1 ! (λ l₃. alloc1 ! (λ l₄. alloc0 ! $ params1 ! $
         pass1 ! (init ! 6 refl (t .0)) $ pass1 ! (init ! 4 refl (t .1 .0)) $ pass1 ! (init ! 2 refl (t .1 .1 .0)) $ pass0 ! $
         move ! (10 ∷ []) $ asks ! fm new.ended φ-new news (κs, qs, bounds, a, machineOf (madeOf a))
-        (and-then ! (var ! 7 refl) (and-then ! (var ! 5 refl) (and-then ! (var ! 3 refl) (no-more !)))) (λ u d e is.
+        (and-then ! (var ! 7 refl) (and-then ! (operand ! (var ! 5 {i = 2} refl) refl) (and-then ! (var ! 3 refl) (no-more !)))) (λ u d e is.
         -- [what the reader owns; room for _4; …; _3; …; _2; …; _1; …; room for _0; …]
         stores ! 1 refl (LL.lawful (T.the-type α) (T′.the-laws α) 𝓤 H A W .typed d _ is .0) $
         use1 W (raw (onEntry 𝓤 H A next.signature κs qs (d, tt) (u ∷ [], tt)))

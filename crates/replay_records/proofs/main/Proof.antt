@@ -8,7 +8,7 @@ use Rattle.replay_records.proofs.main.Tie as tie
 
 abbrev Inv-loop : tie.InvT-loop
 Inv-loop payload₀ answer₀ line₀ turns₀ payload answer line turns =
-    (65792 ≡ length payload) × (65792 ≡ length answer) × (131585 ≡ length line)
+    (73728 ≡ length payload) × (65792 ≡ length answer) × (131585 ≡ length line)
 
 abbrev μ-loop : tie.MeasureT-loop
 μ-loop payload₀ answer₀ line₀ turns₀ payload answer line turns = turns

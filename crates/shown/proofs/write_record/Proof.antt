@@ -21,7 +21,7 @@ returns-2 : tie.Need-returns-2
 returns-2 c =
     let s = c .before .before .before .before .before .before .before .before .before .before .before in
     let l = any-long (s .args .age .0) (s .args .index) (s .args .place) (now (s .args .bytes)) (λ i. omega (arith, c .before .before .before .before .before .before .before .before .before .before .shared-slice-known .given i)) (omega arith) (omega arith) in
-    c .before .before .write .ensures ∙ copied _ l (c .before .before .before .before .before .before .put-record-line2 .ensures)
+    c .before .before .write .ensures ∙ copied _ (omega (arith, l)) (c .before .before .before .before .before .before .put-record-line2 .ensures)
 
 pub write-record-spec : {M : Type 1} → statement M
 write-record-spec =

@@ -10,13 +10,25 @@ use borrow.Author.Needs.{needs}
 use Rattle.text.proofs.as_string.Statement.{statement}
 use Rattle.text.proofs.as_string.Tie as tie
 
+returns : tie.Need-returns
+returns c =
+    let s = c .before .before .before .before .before .before in
+    let l = text-long (s .args .r) _ (s .good .1 .0) in
+    put-fits (omega (arith, l)) (c .before .before .put-text .ensures)
+
+returns-2 : tie.Need-returns-2
+returns-2 c =
+    let s = c .before .before .before .before .before .before .before .before .before .before in
+    let l = text-long (s .args .r) _ (s .good .1 .0) in
+    c .before .before .write .ensures ∙ copied _ (omega (arith, l)) (c .before .before .before .before .before .before .put-text2 .ensures)
+
 pub as-string-spec : {M : Type 1} → statement M
 as-string-spec =
     tie.close
     (tie.spec
     (λ c κs. tt) (λ c. put-same (c .before .before .put-text .ensures))
-    (λ c. let l = text-long (c .before .before .before .before .before .before .args .r) _ (c .before .before .before .before .before .before .good .1 .0) in put-fits (omega (arith, l)) (c .before .before .put-text .ensures))
+    returns
     (λ c. search needs) (λ c κs. tt) (λ c. put-most (c .before .before .put-text2 .ensures) (search needs) .1)
     (λ c. sym (length-take-le _ _ (put-most (c .before .before .before .put-text2 .ensures) (search needs) .1))) (λ c κs. tt)
     (λ c. search needs)
-    (λ c. c .before .before .write .ensures ∙ copied _ (text-long (c .before .before .before .before .before .before .before .before .before .before .args .r) _ (c .before .before .before .before .before .before .before .before .before .before .good .1 .0)) (c .before .before .before .before .before .before .put-text2 .ensures)))
+    returns-2)

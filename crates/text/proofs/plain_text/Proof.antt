@@ -9,5 +9,5 @@ plain-text-spec =
     tie.close
     (tie.spec
     (λ c κs. tt) (λ c. search needs) (λ c. search needs) (λ c κs. tt) (λ c κs. tt)
-    (λ c. plain-refused _ _ _ (c .before .before .before .amount .ensures) _ (c .before .why .given .1)) (λ c. search needs)
+    (λ c. plain-refused _ _ _ (c .before .before .before .amount .ensures) _ (c .before .refusal .given .1)) (λ c. search needs)
     (λ c. plain-whole _ _ _ (c .before .before .before .before .before .before .before .before .amount .ensures) _ (c .before .before .before .before .before .parse .result) _ (c .before .before .before .before .before .before .enum-told .given .1) (c .before .before .before .before .before .parse .ensures) (c .before .before .as-string .ensures)))

@@ -15,14 +15,14 @@ use contract.Monad.{Fun, factI}
 use contract.Running.{givenOf}
 use types.Kit.{Given, raw, _$_, _∵_, !, qed, by, move, use1}
 use types.Part.{agg}
-use types.Run.{look, init, and-then, no-more, returns, enter, alloc1, alloc0, params1, pass1, pass0, free0}
+use types.Run.{look, init, of-opd, and-then, no-more, returns, enter, alloc1, alloc0, params1, pass1, pass0, free0}
 use denote.Builtin.{usize}
 use denote.Plain.{uint-vals}
 use denote.Struct.Rest.{own-put}
 use denote.Triple.Entry.{Vals, onEntry}
 use Rattle.reader.specs.declared.RunReader.{RunReader}
 use Rattle.reader.specs.Reader.{readerAt}
-use Rattle.reader.proofs.ByHand.{Ensures, Quiet, Knowns, Walk, leaves, var, part, sets, gone, kept}
+use Rattle.reader.proofs.ByHand.{Ensures, Quiet, Knowns, Walk, leaves, var, part, operand, sets, gone, kept}
 use Rattle.reader.proofs.ReaderLaws.{Row, Shape, Lawss, fieldsOf, Own, Held, place-known, reader-known}
 use Rattle.reader.proofs.RunReader.Laws as T′
 use Rattle.reader.proofs.RunReader.moved as moved
@@ -63,8 +63,9 @@ module _ {M : Type 1} (𝓤 : URA M) (H : Heap 𝓤) (A : Atoms 𝓤) (mem : Mem
           alloc1 ! (λ l₀. alloc1 ! (λ l₁. alloc1 ! (λ l₂. alloc1 ! (λ l₃. alloc1 ! (λ l₄. alloc0 ! $ params1 ! $
           pass1 ! (init ! 6 refl (t .0)) $ pass1 ! (init ! 4 refl (t .1 .0)) $ pass0 ! $
           -- [room for _4; …; room for _3; …; _2; …; _1; …; room for _0; …; what the reader that is returned owns]
-          sets ! (part ! 6 0 refl refl refl) 2 refl (tt, t .0 .1 .0) $ sets ! (part ! 6 2 refl refl refl) 0 refl (tt, t .0 .1 .1 .1 .0) $
-          sets ! (agg ! (and-then ! (var ! 2 refl) (and-then ! (var ! 4 refl) (and-then ! (var ! 0 refl) (no-more !)))))
+          sets ! (of-opd ! (part ! 6 0 refl refl refl)) 2 refl (tt, t .0 .1 .0) $
+          sets ! (of-opd ! (part ! 6 2 refl refl refl)) 0 refl (tt, t .0 .1 .1 .1 .0) $
+          sets ! (agg ! (and-then ! (var ! 2 refl) (and-then ! (operand ! (var ! 4 {i = 2} refl) refl) (and-then ! (var ! 0 refl) (no-more !)))))
           8 refl (tt, (t .0 .1 .0, (t .1 .0 .1, (t .0 .1 .1 .1 .0, tt)))) $
           returns ! (look ! 8 refl) $ move ! (8 ∷ 9 ∷ []) $ gone ! $ move ! (6 ∷ 7 ∷ []) $ gone ! $ move ! (4 ∷ 5 ∷ []) $ gone ! $
           move ! (2 ∷ 3 ∷ []) $ gone ! $ gone ! $ free0 ! $

@@ -14,7 +14,7 @@ use types.Kit.{Given, raw, _$_, _∵_, !, qed, by, move, use1}
 use types.Part.{agg}
 use types.Run.{look, init, and-then, no-more, returns, enter, alloc1, alloc0, params1, pass1, pass0, free0}
 use Rattle.reader.specs.declared.RunReader.{RunReader}
-use Rattle.reader.proofs.ByHand.{Ensures, Quiet, Walk, leaves, var, sets, gone, kept}
+use Rattle.reader.proofs.ByHand.{Ensures, Quiet, Walk, leaves, var, operand, sets, gone, kept}
 use Rattle.reader.proofs.ReaderLaws.{machineOf, madeOf, Held, Apart, fields-known, shuts}
 use Rattle.reader.proofs.RunReader.Laws as T′
 use Rattle.reader.proofs.RunReader.new_at as new
@@ -37,7 +37,7 @@ module _ {M : Type 1} (𝓤 : URA M) (H : Heap 𝓤) (A : Atoms 𝓤) (mem : Mem
         alloc1 ! (λ l₀. alloc1 ! (λ l₁. alloc1 ! (λ l₂. alloc1 ! (λ l₃. alloc0 ! $ params1 ! $
         pass1 ! (init ! 4 refl (t .0)) $ pass1 ! (init ! 2 refl (t .1 .0)) $ pass1 ! (init ! 0 refl (t .1 .1 .0)) $ pass0 ! $
         -- [_3; …; _2; …; _1; …; room for _0; …; what the reader owns]
-        sets ! (agg ! (and-then ! (var ! 4 refl) (and-then ! (var ! 2 refl) (and-then ! (var ! 0 refl) (no-more !)))))
+        sets ! (agg ! (and-then ! (var ! 4 refl) (and-then ! (operand ! (var ! 2 {i = 2} refl) refl) (and-then ! (var ! 0 refl) (no-more !)))))
         6 refl (tt, (t .0 .1, (t .1 .0 .1, (t .1 .1 .0 .1, tt)))) $
         returns ! (look ! 6 refl) $ move ! (6 ∷ 7 ∷ 4 ∷ 5 ∷ 2 ∷ 3 ∷ []) $ gone ! $ gone ! $ gone ! $ gone ! $ free0 ! $
         by ! (leaves 𝓤 H A new.ended ensures W (κs, qs, bounds, a, machineOf d) quiet (T′.lowered d) d (factI 𝓤 (d ≡ madeOf a) (emp 𝓤) refl))))))

@@ -13,12 +13,12 @@ use contract.Lifetimes.{Lfts, toks}
 use contract.Monad.{Fun, factI}
 use contract.Running.{givenOf}
 use types.Kit.{Given, raw, _$_, _∵_, !, qed, by, move, use1}
-use types.Run.{look, init, and-then, no-more, returns, enter, alloc1, alloc0, params1, pass1, pass0, free0}
+use types.Run.{look, init, of-opd, and-then, no-more, returns, enter, alloc1, alloc0, params1, pass1, pass0, free0}
 use denote.Struct.Laws as LL
 use denote.Triple.Entry.{onEntry}
 use denote.Triple.Statement.{Triple}
 use denote.Triple.Table.{cited}
-use Rattle.reader.proofs.ByHand.{Ensures, Fact, Promised, Quiet, Knowns, Walk, leaves, asks, var, part, sets, stores, gone, framed, kept}
+use Rattle.reader.proofs.ByHand.{Ensures, Fact, Promised, Quiet, Knowns, Walk, leaves, asks, var, part, operand, sets, stores, gone, framed, kept}
 use Rattle.reader.proofs.ReaderLaws.{Row, Steps, fieldsOf, machineOf, madeOf, Own, Apart, reader-known, opens}
 use Rattle.runs.proofs.Stepped as S
 use Rattle.runs.proofs.Stepped.Laws as S′
@@ -53,8 +53,9 @@ module _ {M : Type 1} (𝓤 : URA M) (H : Heap 𝓤) (A : Atoms 𝓤) (mem : Mem
           alloc1 ! (λ l₀. alloc1 ! (λ l₁. alloc1 ! (λ l₂. alloc1 ! (λ l₃. alloc1 ! (λ l₄. alloc0 ! $ params1 ! $
           pass1 ! (init ! 6 refl (t .0)) $ pass0 ! $
           -- [room for _4; …; room for _3; …; room for _2; …; _1; …; room for _0; …; what the fields own]
-          sets ! (part ! 6 0 refl refl refl) 4 refl (tt, t .0 .1 .0) $ sets ! (part ! 6 1 refl refl refl) 2 refl (tt, t .0 .1 .1 .0) $
-          sets ! (part ! 6 2 refl refl refl) 0 refl (tt, t .0 .1 .1 .1 .0) $
+          sets ! (of-opd ! (part ! 6 0 refl refl refl)) 4 refl (tt, t .0 .1 .0) $
+          sets ! (of-opd ! (operand ! (part ! 6 1 {i = 1} refl refl refl) refl)) 2 refl (tt, t .0 .1 .1 .0) $
+          sets ! (of-opd ! (part ! 6 2 refl refl refl)) 0 refl (tt, t .0 .1 .1 .1 .0) $
           move ! (10 ∷ []) $ asks ! fm step.ended φ-step steps (κs, qs, bounds, fieldsOf (a .0), machineOf (a .0))
           (and-then ! (var ! 5 refl) (and-then ! (var ! 3 refl) (and-then ! (var ! 1 refl) (no-more !)))) (λ u r e is.
           -- [what the result owns; _4; …; _3; …; _2; …; _1; …; room for _0; …]

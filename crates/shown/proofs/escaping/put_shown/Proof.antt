@@ -1,5 +1,6 @@
 -- The text is put into a buffer of its own, which holds it, and shown from there. Assumes nothing.
 use mathlib.Core.Path.{sym}
+use native.Mathlib.Omega.{arith}
 use lib.Seq.{length-take-le}
 use borrow.Author.Needs.{needs}
 use Rattle.buffer.proofs.Putting.{put-most}
@@ -11,12 +12,14 @@ use Rattle.shown.proofs.escaping.put_shown.Tie as tie
 returns : tie.Need-returns
 returns c =
     let s = c .before .before .before .before .before .before .before .before .before .before in
-    rw (shown-empty (text-long (s .args .r) _ (s .good .1 .1 .0)) (c .before .before .before .before .before .before .before .put-text .ensures) (search needs)) (c .before .before .put .ensures)
+    let l = text-long (s .args .r) _ (s .good .1 .1 .0) in
+    rw (shown-empty (omega (arith, l)) (c .before .before .before .before .before .before .before .put-text .ensures) (search needs)) (c .before .before .put .ensures)
 
 returns-2 : tie.Need-returns-2
 returns-2 c =
     let s = c .before .before .before .before .before .before .before .before .before .before in
-    rw (shown-held (text-long (s .args .r) _ (s .good .1 .1 .0)) (c .before .before .before .before .before .before .before .put-text .ensures) (c .before .before .before .before .before .if1 .left)) (c .before .before .put-escaped .ensures)
+    let l = text-long (s .args .r) _ (s .good .1 .1 .0) in
+    rw (shown-held (omega (arith, l)) (c .before .before .before .before .before .before .before .put-text .ensures) (c .before .before .before .before .before .if1 .left)) (c .before .before .put-escaped .ensures)
 
 pub put-shown-spec : {M : Type 1} → statement M
 put-shown-spec =

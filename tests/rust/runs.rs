@@ -1,0 +1,174 @@
+//! The questions on a place of a run: the step there, the run reader, text, marks, and whether a record is held back. 000 has
+//! neither runs nor ages: the answers are 01's rules over what it parses and says.
+use crate::listing::held_back;
+use crate::payloads::{all_of, declared, few_of, many, one, record, Maker, ENDS, RECORDS};
+use crate::questions::{Asked, Random};
+use crate::records::fields;
+use crate::scale::expected::{age, wanted, whole, Wanted};
+use crate::scale::inputs::{any_age, cursor, long_run, room, run, NO_AGES};
+use crate::scale::Call;
+use crate::spellings::{PLACES, SPELLED};
+
+/// A row of this file: an answer to what is asked at a place.
+macro_rules! at_a_place {
+    ($tag:literal, $name:literal, $answer:expr) => {
+        Asked {
+            tag: $tag,
+            name: $name,
+            full: |random| all_of(PLACED, random),
+            fixed: || few_of(PLACED, 40),
+            answer: |payload| {
+                let answer: fn(Placed) -> Vec<u8> = $answer;
+                answer(Placed::read(payload))
+            },
+        }
+    };
+}
+
+/// The rows of the questions.
+pub const STEP_AT: Asked = at_a_place!(37, "step_at", |at| stepped(&at, at.age));
+pub const READ_AT: Asked = at_a_place!(38, "read_at", |at| stepped(&at, at.age));
+pub const SOUGHT: Asked = at_a_place!(39, "RunReader::new, moved", |at| stepped(&at, 64));
+pub const HELD_BACK: Asked = at_a_place!(40, "held_back", held);
+pub const TEXT_AT: Asked = at_a_place!(41, "text_at", |at| wrote(at, Call::AgedText));
+pub const MARKS_AT: Asked = at_a_place!(42, "marks_at", |at| wrote(at, Call::Marks));
+
+/// What the questions are asked about.
+const PLACED: &[Maker] = &[everywhere, in_runs, of_records, in_long_runs];
+
+/// What a payload holds: an age, a place, the bytes that are lent, and the run.
+struct Placed<'a> {
+    age: u32,
+    place: u64,
+    lent: &'a [u8],
+    run: &'a [u8],
+}
+
+impl Placed<'_> {
+    /// What a payload holds.
+    fn read(payload: &[u8]) -> Placed<'_> {
+        let number = |at: usize| u32::from_le_bytes(payload[at..at + 4].try_into().expect("four bytes"));
+        let (lent, run) = payload[16..].split_at(number(12) as usize);
+        Placed { age: number(0), place: u64::from(number(8)) << 32 | u64::from(number(4)), lent, run }
+    }
+
+    /// The payload that holds it.
+    fn payload(&self) -> Vec<u8> {
+        let lent = u32::try_from(self.lent.len()).expect("a length fits four bytes");
+        let numbers = [&self.age.to_le_bytes()[..], &self.place.to_le_bytes(), &lent.to_le_bytes()];
+        [&numbers.concat(), self.lent, self.run].concat()
+    }
+
+    /// The bytes from the place on, none where it is past them.
+    fn rest(&self) -> &[u8] {
+        self.run.get(self.place as usize..).unwrap_or(&[])
+    }
+}
+
+/// A payload at a place, with as many bytes lent as its text or its marks may ask for.
+fn placed(random: &mut Random, age: u32, place: u64, run: &[u8]) -> Vec<u8> {
+    let call = one(random, &[Call::AgedText, Call::Marks]);
+    let mut asked = Placed { age, place, lent: &[], run };
+    let (_, count) = room(random, &wanted(call, age, 0, 0, asked.rest()));
+    let lent = random.bytes(count);
+    asked.lent = &lent;
+    asked.payload()
+}
+
+/// Short runs at every place to past their end, at every age and at numbers that are none.
+fn everywhere(random: &mut Random) -> Vec<Vec<u8>> {
+    let mut tail = record(random, 72);
+    tail[64..].fill(0);
+    let runs = [
+        vec![],
+        [vec![0; 16], vec![1, 2, 3]].concat(),
+        [declared(random, 20, 20), record(random, 44), vec![0; 16]].concat(),
+        [tail, declared(random, 65, 65)].concat(),
+    ];
+    let ages: Vec<u32> = ENDS[3..].iter().map(|end| *end as u32).chain(NO_AGES).collect();
+    let mut made = Vec::new();
+    for run in &runs {
+        for place in 0..run.len() as u64 + 18 {
+            made.extend(ages.iter().map(|age| placed(random, *age, place, run)));
+        }
+    }
+    made
+}
+
+/// A payload at some place and some age.
+fn anywhere(random: &mut Random, run: &[u8]) -> Vec<u8> {
+    let (age, (_, place)) = (any_age(random), cursor(random, run));
+    placed(random, age, place, run)
+}
+
+/// Places of runs of up to 24 records.
+fn in_runs(random: &mut Random) -> Vec<Vec<u8>> {
+    many(8_000, random, |random| {
+        let bytes = run(random);
+        anywhere(random, &bytes)
+    })
+}
+
+/// Records of every other sort, each by itself.
+fn of_records(random: &mut Random) -> Vec<Vec<u8>> {
+    let pool = [PLACES, SPELLED, RECORDS].map(|makers| all_of(makers, random)).concat();
+    (0..8_000)
+        .map(|_| {
+            let bytes = &pool[random.below(pool.len())];
+            anywhere(random, bytes)
+        })
+        .collect()
+}
+
+/// Places of runs of up to 65,536 bytes.
+fn in_long_runs(random: &mut Random) -> Vec<Vec<u8>> {
+    many(60, random, |random| {
+        let bytes = long_run(random);
+        anywhere(random, &bytes)
+    })
+}
+
+/// What a call tells: 01's number in four bytes, the amount in eight.
+fn told(number: u32, amount: usize) -> Vec<u8> {
+    [&number.to_le_bytes()[..], &(amount as u64).to_le_bytes()].concat()
+}
+
+/// The step at a place for a reader of an age: whether a record is found, where the next step goes on, and what the reader gives
+/// of the record. An age is the end of a field, so that what the reader doesn't know are the bytes from there on.
+fn stepped(at: &Placed, number: u32) -> Vec<u8> {
+    let found = age(number).and_then(|age| match at.place.cmp(&(at.run.len() as u64)) {
+        std::cmp::Ordering::Equal => Ok(None),
+        _ => whole(at.rest()).map(|(record, amount)| Some((fields(&record)[..age].to_vec(), amount))),
+    });
+    let (told, amount, mut known) = match found {
+        Ok(Some((known, amount))) => (told(0, 1), amount, known),
+        Ok(None) => (told(0, 0), 0, vec![]),
+        Err(number) => (told(number, 0), 0, vec![]),
+    };
+    known.resize(64, 0);
+    [told, (at.place + amount as u64).to_le_bytes().to_vec(), known].concat()
+}
+
+/// Whether the record at a place is held back.
+fn held(at: Placed) -> Vec<u8> {
+    let late = age(at.age).and_then(|age| Ok(held_back(&at.rest()[..whole(at.rest())?.1], age)));
+    match late {
+        Ok(late) => told(0, late.into()),
+        Err(number) => told(number, 0),
+    }
+}
+
+/// What a call that writes tells, and the lent bytes as it leaves them.
+fn wrote(at: Placed, call: Call) -> Vec<u8> {
+    let wanted: Wanted = wanted(call, at.age, 0, 0, at.rest());
+    let mut left = at.lent.to_vec();
+    let told = match wanted {
+        Ok(bytes) if bytes.len() <= left.len() => {
+            left[..bytes.len()].copy_from_slice(&bytes);
+            told(0, bytes.len())
+        }
+        Ok(_) => told(5, 0),
+        Err(number) => told(number, 0),
+    };
+    [told, left].concat()
+}
