@@ -5,7 +5,7 @@ use crate::payloads::{all_of, declared, few_of, many, one, record, Maker, ENDS, 
 use crate::questions::{Asked, Random};
 use crate::records::fields;
 use crate::scale::expected::{age, wanted, whole, Wanted};
-use crate::scale::inputs::{any_age, cursor, long_run, room, run, NO_AGES};
+use crate::scale::inputs::{any_age, cursor, long_run, room, run};
 use crate::scale::Call;
 use crate::spellings::{PLACES, SPELLED};
 
@@ -85,7 +85,7 @@ fn everywhere(random: &mut Random) -> Vec<Vec<u8>> {
         [declared(random, 20, 20), record(random, 44), vec![0; 16]].concat(),
         [tail, declared(random, 65, 65)].concat(),
     ];
-    let ages: Vec<u32> = ENDS[3..].iter().map(|end| *end as u32).chain(NO_AGES).collect();
+    let ages: Vec<u32> = ENDS[3..].iter().map(|end| *end as u32).chain([0, 44, 65, u32::MAX]).collect();
     let mut made = Vec::new();
     for run in &runs {
         for place in 0..run.len() as u64 + 18 {
@@ -103,7 +103,7 @@ fn anywhere(random: &mut Random, run: &[u8]) -> Vec<u8> {
 
 /// Places of runs of up to 24 records.
 fn in_runs(random: &mut Random) -> Vec<Vec<u8>> {
-    many(8_000, random, |random| {
+    many(12_000, random, |random| {
         let bytes = run(random);
         anywhere(random, &bytes)
     })

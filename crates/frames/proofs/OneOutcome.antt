@@ -1,4 +1,4 @@
--- Any two outcomes that a contract of this crate allows for the same input are one: of `front`, `two` and `four` by `one-answer` of
+-- Any two outcomes that a contract of this crate allows for the same input are one: of `front`, `two`, `four` and `eight` by `one-answer` of
 -- answers. Assumes nothing.
 use Prim.Native.Nat.{ℕ}
 use mathlib.Core.Path.{_≡_}

@@ -48,7 +48,7 @@ const GO_TO: [Call; 16] = [
 const LARGE: [usize; 8] = [344, 345, 1066, 1100, 1101, 1102, 2048, 4096];
 
 /// Ages that are none.
-pub const NO_AGES: [u32; 18] =
+const NO_AGES: [u32; 18] =
     [0, 1, 4, 8, 12, 15, 17, 33, 42, 44, 56, 63, 65, 128, 256 + 64, 65536 + 16, 1 << 31, u32::MAX];
 
 /// What inputs are taken for.
