@@ -16,7 +16,8 @@ pub const SHEET: Asked = Asked {
     answer: |bytes| told(taken(bytes).map(|(record, _)| sheet(&record))),
 };
 
-/// When the place of each kind is said: what the mask leaves of its number, in units of the mask's lowest bit, is from 1 to the last.
+/// When the place of each kind is said: what its mask leaves of its number, in units of the mask's lowest bit, is from 1 to its
+/// last.
 const SAID: [(u16, u16); 16] = [
     (0x03, 3),
     (0xc0, 2),
