@@ -1,7 +1,7 @@
 //! The questions on a place of a run: the step there, the run reader, text, marks, and whether a record is held back. 000 has
 //! neither runs nor ages: the answers are 01's rules over what it parses and says.
 use crate::listing::held_back;
-use crate::payloads::{all_of, declared, few_of, many, one, record, Maker, ENDS, RECORDS};
+use crate::payloads::{all_of, declare, declared, few_of, many, one, record, Maker, ENDS, RECORDS};
 use crate::questions::{Asked, Random};
 use crate::records::fields;
 use crate::scale::expected::{age, wanted, whole, Wanted};
@@ -34,7 +34,7 @@ pub const TEXT_AT: Asked = at_a_place!(41, "text_at", |at| wrote(at, Call::AgedT
 pub const MARKS_AT: Asked = at_a_place!(42, "marks_at", |at| wrote(at, Call::Marks));
 
 /// What the questions are asked about.
-const PLACED: &[Maker] = &[everywhere, in_runs, of_records, in_long_runs];
+const PLACED: &[Maker] = &[everywhere, one_late, in_runs, of_records, in_long_runs];
 
 /// What a payload holds: an age, a place, the bytes that are lent, and the run.
 struct Placed<'a> {
@@ -93,6 +93,19 @@ fn everywhere(random: &mut Random) -> Vec<Vec<u8>> {
         }
     }
     made
+}
+
+/// A record with one byte that isn't zero, right before each age, at it, right behind it, and the record's last.
+fn one_late(random: &mut Random) -> Vec<Vec<u8>> {
+    let places = ENDS[3..].iter().flat_map(|age| [age - 1, *age, age + 1, 71].map(|at| (*age, at)));
+    places
+        .map(|(age, at)| {
+            let mut bytes = vec![0; 72];
+            declare(&mut bytes, 72);
+            bytes[at] = 1 + random.below(255) as u8;
+            placed(random, age as u32, 16, &[vec![0; 16], bytes].concat())
+        })
+        .collect()
 }
 
 /// A payload at some place and some age.

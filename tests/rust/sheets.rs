@@ -1,7 +1,7 @@
 //! The question on sheets. 000 has none: the numbers are those of its accessors, the kinds what it makes of them, and the said
 //! bits go by a table of this file, which is held to 000's text.
 use crate::kinds::kind_of;
-use crate::payloads::{all_of, few_of, ACCESSED, RECORDS};
+use crate::payloads::{all_of, few_of, RECORDS};
 use crate::questions::Asked;
 use crate::records::{taken, told};
 use crate::spellings::{LONGEST, PLACES, SPELLED};
@@ -11,12 +11,13 @@ use crate::subject::{reach, ResTableConfig};
 pub const SHEET: Asked = Asked {
     tag: 18,
     name: "sheet",
-    full: |random| [PLACES, SPELLED, RECORDS, ACCESSED].map(|makers| all_of(makers, random)).concat(),
-    fixed: || [vec![LONGEST.to_vec()], few_of(PLACES, 40), few_of(SPELLED, 10), few_of(ACCESSED, 10)].concat(),
+    full: |random| [PLACES, SPELLED, RECORDS].map(|makers| all_of(makers, random)).concat(),
+    fixed: || [vec![LONGEST.to_vec()], few_of(PLACES, 40), few_of(SPELLED, 10), few_of(RECORDS, 8)].concat(),
     answer: |bytes| told(taken(bytes).map(|(record, _)| sheet(&record))),
 };
 
-/// When the place of each kind is said: what the mask leaves of its number, in units of the mask's lowest bit, is from 1 to the last.
+/// When the place of each kind is said: what its mask leaves of its number, in units of the mask's lowest bit, is from 1 to its
+/// last.
 const SAID: [(u16, u16); 16] = [
     (0x03, 3),
     (0xc0, 2),
