@@ -1,8 +1,8 @@
 // Writing into a lent buffer.
 //
-// `write` is the way of every call of the library's face: all of it, or refusal 5 and nothing changed. The `put`s below it
-// are machinery for texts that are put together: each takes a place and answers the place where it stopped, behind what it
-// put or at the buffer's end. They refuse nothing and ask for no room; whoever shows what they put, goes through `write`.
+// `write` is for every call that has its bytes at hand: all of them, or refusal 5 and nothing changed. The `put`s are machinery for
+// texts that are put together: each takes a place and answers the place where it stopped, behind what it put or at the buffer's end.
+// They refuse nothing and ask for no room, so a call of the library's face puts into a lent buffer only where all of it fits.
 use answers::Refusal;
 use answers::Written;
 ghost use mathlib.Core.Path.{_≡_};
