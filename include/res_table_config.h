@@ -1,6 +1,6 @@
 /*
- * Resource configuration records of Android packages: five calls on numbers and bytes. Link libintake.a, which
- * `rt staticlib intake` writes to target/staticlib/ (x86-64 Linux).
+ * Resource configuration records of Android packages: five calls on numbers and bytes. Link libres_table_config.a, which
+ * `rt staticlib res_table_config` writes to target/staticlib/ (x86-64 Linux).
  *
  * Answers. Each call answers one number: a refusal's number in the upper 32 bits, 0 for a success, and an amount in the lower
  * 32 bits, 0 for a refusal. Refusals are tested in the order 3, 1, 2, 4, 5, as far as each can come.

@@ -17,7 +17,7 @@ int memcmp(const void *a, const void *b, size_t count);
 long read(int file, void *to, size_t count);
 long write(int file, const void *from, size_t count);
 
-/* What crates/probe exports for this run. */
+/* What crates/test_probe exports for this run. */
 uint64_t probe_first_line(const uint8_t *bytes, size_t len, uint32_t age, uint8_t *out, size_t cap);
 uint64_t probe_line(const uint8_t *bytes, size_t len, uint32_t age, size_t index, size_t place, uint8_t *out, size_t cap);
 uint64_t probe_next(const uint8_t *bytes, size_t len, uint32_t age, size_t index, size_t place, uint8_t *out, size_t cap);

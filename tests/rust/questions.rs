@@ -12,7 +12,7 @@ pub struct Asked {
 
 /// The programs over the port that answer questions, and the kinds of question that each answers, a table to a file.
 pub const TABLES: &[(&str, &[Asked])] =
-    &[("replay", kinds::ASKED), ("replay_records", records::ASKED), ("replay_text", texts::ASKED)];
+    &[("test_replay", kinds::ASKED), ("test_replay_records", records::ASKED), ("test_replay_text", texts::ASKED)];
 
 /// The kinds of question that a program answers.
 pub fn answered_by(program: &str) -> Result<&'static [Asked], String> {

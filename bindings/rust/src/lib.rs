@@ -1,4 +1,4 @@
-//! Android's resource configuration records, over the proved crate `intake` (`include/res_table_config.h` is its C face).
+//! Android's resource configuration records, over the proved crate `res_table_config` (`include/res_table_config.h` is its C face).
 //!
 //! Five functions on slices. Each takes every input: what it can't do it refuses with a [`Refusal`], and a refusal writes
 //! nothing. Ages are plain numbers; twelve of them are ages.

@@ -10,8 +10,8 @@ use Rattle.buffer.proofs.Digits.{decimal-long}
 use Rattle.record.specs.Table.{Bytes}
 use Rattle.reading.specs.Reading.{amountOf, sizeOf}
 use Rattle.reading.proofs.Whole.{took-says}
-use Rattle.shown.specs.Shown.{recordLine}
-use Rattle.shown.proofs.Bounds.{record-long}
+use Rattle.record_line.specs.RecordLine.{recordLine}
+use Rattle.record_line.proofs.Bounds.{record-long}
 use Rattle.lines.specs.Lines.{ageLine, stopLine}
 
 -- the line with an age of d + 1 digits at the most

@@ -21,7 +21,7 @@ use Rattle.reading.proofs.Whole.{age-known, age-unknown, took-says, took-whole,
 use Rattle.marking.proofs.Answering.{gives}
 use Rattle.runs.specs.Runs.{reasonAt}
 use Rattle.runs.proofs.Rest.{rest, rest-from}
-use Rattle.shown.specs.Shown.{recordLineOf}
+use Rattle.record_line.specs.RecordLine.{recordLineOf}
 use Rattle.lines.specs.declared.Cursor.{Cursor}
 use Rattle.lines.specs.declared.Lined.{Lined}
 use Rattle.lines.specs.Lines.{LineOutcome, ageLine, stopLine, lineAt, after, linedOutcome, lineRefused, lineWritten, lineOf}

@@ -17,7 +17,7 @@ use Rattle.record.specs.Ages.{isAge}
 use Rattle.reading.specs.Reading.{reads, fieldBy, recordBy, aged, ifWhole, ifAge}
 use Rattle.marking.specs.Marks.{markOf, marksOf, heldBack}
 use Rattle.runs.specs.Runs.{offsetsIn, stopIn, reasonAt}
-use Rattle.shown.specs.Shown.{visible, escaped, escapedAll, shownWords, shownText, newline, recordLine}
+use Rattle.record_line.specs.RecordLine.{visible, escaped, escapedAll, shownWords, shownText, newline, recordLine}
 use Rattle.lines.specs.declared.Cursor.{Cursor}
 use Rattle.lines.specs.Lines.{ageLine, stopLine, recordLines, lineAt, after, lineRefused, lineOf, listingOf}
 

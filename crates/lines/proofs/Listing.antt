@@ -21,7 +21,7 @@ use Rattle.record.proofs.Twelve.{age-bounds}
 use Rattle.reading.specs.Reading.{amountOf, taken, ifWhole}
 use Rattle.reading.proofs.Whole.{amounts, takes, refuses, whole-short, took-says, took-whole, refused-whole}
 use Rattle.runs.specs.Runs.{offsetsIn, stopIn, reasonAt}
-use Rattle.shown.specs.Shown.{recordLine}
+use Rattle.record_line.specs.RecordLine.{recordLine}
 use Rattle.lines.specs.declared.Cursor.{Cursor}
 use Rattle.lines.specs.Lines.{ageLine, stopLine, lineAt, after, lineOf, callsOf, cursorOf, recordLines, listingOf}
 use Rattle.lines.specs.Listing.{Roomy, eachWrote, WholeListing}

@@ -6,8 +6,8 @@ use lib.ListN.{drop}
 use Rattle.answers.proofs.Says.{chosen}
 use Rattle.buffer.specs.Ascii.{ascii}
 use Rattle.runs.specs.Runs.{offsetsOf, stopOf, reasonAt}
-use Rattle.shown.specs.Ended.{Ended}
-use Rattle.shown.proofs.Newlines.{both, fixed, number, gap, record-ended}
+use Rattle.record_line.specs.Ended.{Ended}
+use Rattle.record_line.proofs.Newlines.{both, fixed, number, gap, record-ended}
 use Rattle.lines.specs.Lines.{ageLine, stopLine, recordLines, listingOf, tooMuch}
 use Rattle.lines.specs.Listing.{EachEnded}
 

@@ -10,7 +10,7 @@ use Rattle.buffer.specs.Decimal.{decimal}
 use Rattle.buffer.specs.Written.{Outcome, outcome, written, wrote, refused}
 use Rattle.reading.specs.Reading.{taken, ifWhole, ifAge}
 use Rattle.runs.specs.Runs.{offsetsOf, stopOf, reasonAt}
-use Rattle.shown.specs.Shown.{newline, space, recordLine}
+use Rattle.record_line.specs.RecordLine.{newline, space, recordLine}
 use Rattle.lines.specs.declared.Cursor.{Cursor}
 use Rattle.lines.specs.declared.Lined.{Lined}
 

@@ -7,7 +7,7 @@ use lib.ListN.{length}
 use Rattle.buffer.specs.Written.{Outcome, wrote}
 use Rattle.record.specs.Ages.{isAge}
 use Rattle.record.specs.Table.{Bytes}
-use Rattle.shown.specs.Ended.{Ended}
+use Rattle.record_line.specs.Ended.{Ended}
 use Rattle.lines.specs.declared.Cursor.{Cursor}
 use Rattle.lines.specs.Lines.{callsOf, cursorOf, listingOf}
 

@@ -9,7 +9,7 @@ use buffer::write;
 use reading::amount;
 use reading::lesser;
 use record::Age;
-use shown::record_line;
+use record_line::record_line;
 ghost use mathlib.Core.Path.{_≡_};
 ghost use mathlib.Core.Bool.{true, cond};
 ghost use Prim.Native.Nat.{_≤_};

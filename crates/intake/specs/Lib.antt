@@ -1,3 +1,0 @@
-pub mod Intake
-pub mod Small
-pub mod Demand1

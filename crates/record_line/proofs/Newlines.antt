@@ -1,0 +1,125 @@
+-- The line of a record is ended by one newline, and has no other. Assumes nothing.
+use Prim.Native.Nat.{ℕ, zero, suc, _/_, _%_, _≤_}
+use mathlib.Core.Path.{_≡_, refl}
+use mathlib.Core.Bool.{Bool, true, false, cond, not}
+use mathlib.Core.List.{List, [], _∷_, _++_, map}
+use native.Mathlib.Omega.{arith}
+use native.Mathlib.Decide.{decLt, ℕ-discrete}
+use lib.Dec.{T, eqb, ltb}
+use lib.ListN.{List·getD-eq-default}
+use borrow.Author.Tests.{lt-ltb, le-ltb, eq-eqb, ne-eqb}
+use Rattle.answers.proofs.Says.{chosen}
+use Rattle.buffer.specs.Ascii.{ascii}
+use Rattle.buffer.specs.Decimal.{digits, decimal}
+use Rattle.reading.specs.Reading.{reads, aged, sizeOf}
+use Rattle.reading.proofs.Rows.{in-row}
+use Rattle.record.specs.Table.{part, allZero, startOf, endOf, widthOf}
+use Rattle.marking.specs.Marks.{heldBack, markOf, marksOf}
+use Rattle.places.specs.Places.{textOf}
+use Rattle.record_line.specs.RecordLine.{hexDigits, hexDigit, visible, escaped, escapedAll, shownWords, shownText, space, recordLine}
+use Rattle.record_line.specs.Ended.{Unbroken, none, more, Ended}
+use Rattle.record_line.proofs.Escapes.{below, escaped-same, escaped-hex}
+
+-- words in a row
+pub both : {u v : List ℕ} → Unbroken u → Unbroken v → Unbroken (u ++ v)
+both none q = q
+both (more h p) q = more h (both p q)
+
+-- one byte
+one : {b : ℕ} → (b ≡ 10 → ⊥) → Unbroken (b ∷ [])
+one h = more h none
+
+-- a fixed word, by a computed test
+abbrev pub clean : List ℕ → Bool
+clean [] = true
+clean (b ∷ w) = cond (eqb b 10) false (clean w)
+
+pub fixed : (w : List ℕ) → T (clean w) → Unbroken w
+fixed [] t = none
+fixed (b ∷ w) t =
+    elim (ℕ-discrete b 10) [
+      | yes e ↦ absurd (rw (eq-eqb b 10 e) at t)
+      | no e ↦ more e (fixed w (rw (ne-eqb b 10 e) at t))
+    ]
+
+-- digits
+digits-unbroken : (k n : ℕ) → n ≤ k → Unbroken (digits k n)
+unfolding digits
+digits-unbroken zero n h = one (λ e. omega arith)
+digits-unbroken (suc k) n h =
+    elim (decLt n 10) [
+      | yes l ↦ rw (lt-ltb n 10 l) (one (λ e. omega arith))
+      | no l ↦ let g : 10 ≤ n = omega arith in rw (le-ltb n 10 g) (both (digits-unbroken k (n / 10) (omega arith)) (one (λ e. omega arith)))
+    ]
+
+-- a number
+pub number : (n : ℕ) → Unbroken (decimal n)
+unfolding decimal
+number n = digits-unbroken n n (omega arith)
+
+-- a mark, by its three tests, and the marks
+mark : (a : ℕ) (s : List ℕ) (f : ℕ) → markOf a s f ≡ 10 → ⊥
+unfolding markOf
+mark a s f =
+    let P : ℕ → Type 0 = λ n. n ≡ 10 → ⊥ in
+    chosen P (ltb a (endOf f)) (λ e. omega arith)
+    (chosen P (not (reads (sizeOf s) f)) (λ e. omega arith)
+    (chosen P (allZero (part s (startOf f) (widthOf f))) (λ e. omega arith) (λ e. omega arith)))
+
+marked : (a : ℕ) (s fs : List ℕ) → Unbroken (map (markOf a s) fs)
+marked a s [] = none
+marked a s (f ∷ fs) = more (mark a s f) (marked a s fs)
+
+marks : (a : ℕ) (s : List ℕ) → Unbroken (marksOf a s)
+unfolding marksOf
+marks a s = marked a s (1 ∷ 2 ∷ 3 ∷ 4 ∷ 5 ∷ 6 ∷ 7 ∷ 8 ∷ 9 ∷ 10 ∷ 11 ∷ 12 ∷ 13 ∷ 14 ∷ [])
+
+-- a byte that is shown: as it is, it is past 0x20; else by its digits
+digit : (n : ℕ) → hexDigit n ≡ 10 → ⊥
+digit n e =
+    elim (decLt n 16) [
+      | yes h ↦ test (hexDigit n) (in-row (λ m. not (eqb (hexDigit m) 10)) 16 tt n h) e
+      | no h ↦ let z = List·getD-eq-default hexDigits 0 {n = n} (omega arith) in omega arith
+    ] where
+      test : (d : ℕ) → T (not (eqb d 10)) → d ≡ 10 → ⊥
+      test d t z = rw z at t
+
+shown-byte : (b : ℕ) → Unbroken (escaped b)
+shown-byte b =
+    elim (decLt b 0x21) [
+      | yes h ↦ rw (escaped-hex b (below b h)) hex
+      | no h ↦ by (visible b) refl (λ e. omega arith)
+    ] where
+      hex : Unbroken ((37 ∷ []) ++ (hexDigit (b / 16) ∷ []) ++ (hexDigit (b % 16) ∷ []))
+      hex = both (both (fixed (37 ∷ []) tt) (one (digit (b / 16)))) (one (digit (b % 16)))
+
+      by : (t : Bool) → t ≡ visible b → (b ≡ 10 → ⊥) → Unbroken (escaped b)
+      by true e h = rw (escaped-same b e) (one h)
+      by false e h = rw (escaped-hex b e) hex
+
+shown-bytes : (w : List ℕ) → Unbroken (escapedAll w)
+unfolding escapedAll
+shown-bytes [] = none
+shown-bytes (b ∷ w) = both (shown-byte b) (shown-bytes w)
+
+words : (w : List ℕ) → Unbroken (shownWords w)
+unfolding shownWords
+words [] = fixed (ascii "%-") tt
+words (b ∷ w) = shown-bytes (b ∷ w)
+
+text : (a : ℕ) (s : List ℕ) → Unbroken (shownText a s)
+unfolding shownText
+text a s = chosen Unbroken (heldBack a s) (fixed (ascii "%!") tt) (words (textOf (aged a s)))
+
+-- what stands between the parts of a line
+pub gap : Unbroken space
+gap = fixed space tt
+
+-- the line of a record
+pub record-ended : (a i p : ℕ) (r : List ℕ) → Ended (recordLine a i p r)
+unfolding recordLine
+record-ended a i p r = record {
+  front = _;
+  is = refl;
+  unbroken = both (both (both (both (both (both (both (both (number i) gap) (number p)) gap) (number (sizeOf r))) gap) (marks a r)) gap) (text a r);
+}

@@ -1,0 +1,3 @@
+pub mod RecordLine
+pub mod Ended
+pub mod Demand1

@@ -1,0 +1,62 @@
+// A record's text as a line of the listing shows it. Machinery, as all that is called `put`: it refuses nothing.
+use buffer::put;
+use buffer::put_byte;
+use places::put_text;
+use record::ResTableConfig;
+ghost use mathlib.Core.Path.{_≡_};
+ghost use Rattle.buffer.specs.Put.{Put};
+ghost use Rattle.places.specs.Places.{textOf};
+ghost use Rattle.record_line.specs.RecordLine.{escaped, escapedAll, shownWords, visible};
+
+// Whether a byte stands in a line as it is.
+fn is_visible(b: u8) -> bool
+    ensures { λ r. ⌜ r ≡ visible b ⌝ }
+{
+    if b < 0x21 {
+        return false;
+    }
+    if 0x7e < b {
+        return false;
+    }
+    b != b'%'
+}
+
+// Puts a byte of a text.
+fn put_shown_byte(out: &mut [u8], at: usize, b: u8) -> usize
+    ensures { λ r. ⌜ Put (now (out .entry)) at (escaped b) (now (out .exit)) r ⌝ }
+{
+    if is_visible(b) {
+        return put_byte(out, at, b);
+    }
+    let digits = b"0123456789ABCDEF";
+    let high = (b / 16) as usize;
+    let low = (b % 16) as usize;
+    let sign = put_byte(out, at, b'%');
+    let first = put_byte(out, sign, digits[high]);
+    put_byte(out, first, digits[low])
+}
+
+// Puts the bytes of a text.
+fn put_escaped(out: &mut [u8], at: usize, text: &[u8]) -> usize
+    ensures { λ r. ⌜ Put (now (out .entry)) at (escapedAll (now (text .entry))) (now (out .exit)) r ⌝ }
+{
+    let mut o = at;
+    let mut j = 0;
+    while j < text.len() {
+        o = put_shown_byte(out, o, text[j]);
+        j += 1;
+    }
+    o
+}
+
+// Puts the text of a record.
+pub fn put_shown(out: &mut [u8], at: usize, r: ResTableConfig) -> usize
+    ensures { λ n. ⌜ Put (now (out .entry)) at (shownWords (textOf r)) (now (out .exit)) n ⌝ }
+{
+    let mut own = [0u8; 344];
+    let n = put_text(&mut own, r);
+    if n == 0 {
+        return put(out, at, b"%-");
+    }
+    put_escaped(out, at, &own[..n])
+}

@@ -1,0 +1,89 @@
+-- What the calls tell has a number below 8 and an amount below 2^32, so nothing of it is lost in an answer; and a refusal has
+-- amount 0. Assumes nothing.
+use Prim.Native.Nat.{ℕ, _≤_, _<_}
+use mathlib.Core.Path.{refl}
+use mathlib.Core.List.{List}
+use native.Mathlib.Omega.{arith}
+use lib.Dec.{leb, lit<}
+use lib.ListN.{length}
+use Rattle.answers.specs.declared.Refusal.{Refusal}
+use Rattle.answers.specs.Numbers.{numberOf}
+use Rattle.answers.specs.Tells.{success, refusal}
+use Rattle.answers.proofs.OneToOne.{number-most}
+use Rattle.answers.proofs.Says.{chosen}
+use Rattle.buffer.specs.Written.{Outcome, written}
+use Rattle.order.specs.declared.Ordering.{Ordering}
+use Rattle.record.specs.Ages.{isAge}
+use Rattle.order.specs.Order.{orderOf, orderingTells}
+use Rattle.record.specs.Table.{Bytes}
+use Rattle.reading.specs.Reading.{ifWhole, ifAge, amountOf, plain, aged, taken}
+use Rattle.reading.proofs.Whole.{amounts, takes, refuses, took-says, took-whole, refused-whole}
+use Rattle.marking.specs.Marks.{marksOf, marksOutcome, heldBack}
+use Rattle.marking.proofs.Marking.{marks-length}
+use Rattle.places.specs.Places.{textOf}
+use Rattle.text.specs.Text.{plainText, agedText}
+use Rattle.text.proofs.Ranges.{part-below, plain-long, aged-long}
+use Rattle.res_table_config.specs.Face.{orderTold}
+use Rattle.res_table_config.specs.Small.{Small}
+
+refusal-small : (why : Refusal) → Small (refusal (numberOf why))
+refusal-small why = record { number = omega (arith, number-most why); amount = lit< tt; bare = λ d. refl }
+
+success-small : (n : ℕ) → n < 4294967296 → Small (success n)
+success-small n h = record { number = lit< tt; amount = h; bare = λ d. absurd (d refl) }
+
+-- what holds of the refusals, and of what a whole record gives, holds of the call
+module _ {A : Type 0} (P : A → Type 0) (refuse : Refusal → A) (give : A) (bad : (why : Refusal) → P (refuse why)) where
+  by-whole : (s : List ℕ) → (taken s ≤ length s → P give) → P (ifWhole s refuse give)
+  by-whole s good =
+      elim (amounts s) [
+        | takes n e ↦ rw (took-whole s refuse give n e) (good (took-says s n e .1))
+        | refuses why e ↦ rw (refused-whole s refuse give why e) (bad why)
+      ]
+
+  by-age : (a : ℕ) → P give → P (ifAge a refuse give)
+  unfolding ifAge
+  by-age a good = chosen P (isAge a) good (bad Refusal.NotAnAge)
+
+-- what a call that writes tells
+abbrev Tells : Outcome → Type 0
+Tells o = Small (o .tells)
+
+written-small : (w old : List ℕ) → length w < 4294967296 → Tells (written w old)
+unfolding written
+written-small w old h =
+    chosen Tells (leb (length w) (length old)) (success-small (length w) h) (refusal-small Refusal.ShortBuffer)
+
+-- of taking: size is a word of 32 bits
+pub take-small : (s : List ℕ) → Bytes s → Small (amountOf s)
+take-small s bytes =
+    by-whole Small _ _ refusal-small s
+    (λ whole. success-small (taken s) (omega (arith, part-below 4 0 s bytes)))
+
+-- of plain text and of aged text: no text is longer than 344 bytes
+pub text-small : (s old : List ℕ) → Bytes s → Small (plainText s old .tells)
+text-small s old bytes =
+    by-whole Tells _ _ refusal-small s (λ whole. written-small (textOf (plain s)) old (omega (arith, plain-long s bytes)))
+
+pub aged-small : (a : ℕ) (s old : List ℕ) → Bytes s → Small (agedText a s old .tells)
+aged-small a s old bytes =
+    by-age Tells _ _ refusal-small a
+    (by-whole Tells _ _ refusal-small s
+    (λ whole. chosen Tells (heldBack a s) (refusal-small Refusal.HeldBack) (written-small (textOf (aged a s)) old (omega (arith, aged-long a s bytes)))))
+
+-- of marks: there are fourteen
+pub marks-small : (a : ℕ) (s old : List ℕ) → Small (marksOutcome a s old .tells)
+marks-small a s old =
+    by-age Tells _ _ refusal-small a
+    (by-whole Tells _ _ refusal-small s (λ whole. written-small (marksOf a s) old (omega (arith, marks-length a s))))
+
+pub ordering-most : (o : Ordering) → orderingTells o < 4294967296
+ordering-most Ordering.Less = lit< tt
+ordering-most Ordering.Equal = lit< tt
+ordering-most Ordering.Greater = lit< tt
+
+-- of order: 2 at the most
+pub order-small : (a b : List ℕ) → Small (orderTold a b)
+order-small a b =
+    by-whole Small _ _ refusal-small a
+    (λ h. by-whole Small _ _ refusal-small b (λ g. success-small _ (ordering-most (orderOf (plain a) (plain b)))))

@@ -1,0 +1,15 @@
+-- What `amount` answers, told and packed. Assumes nothing.
+use mathlib.Core.Path.{_∙_}
+use denote.Ref.{now}
+use Rattle.res_table_config.proofs.Small.{take-small}
+use Rattle.res_table_config.proofs.Answers.{fits}
+use Rattle.res_table_config.proofs.res_table_config_take.Statement.{statement}
+use Rattle.res_table_config.proofs.res_table_config_take.Tie as tie
+
+pub res-table-config-take-spec : {M : Type 1} → statement M
+res-table-config-take-spec =
+    tie.close
+    (tie.spec
+    (λ c κs. tt) (λ c κs. tt) (λ c κs. tt)
+    (λ c κs. fits _ _ (c .told .ensures ∙ c .before .amount .ensures) (take-small (now (c .before .before .before .before .args .bytes)) (c .before .before .are-bytes .ensures)))
+    (λ c. c .packed .ensures ∙ c .before .told .ensures ∙ c .before .before .amount .ensures))

@@ -1,0 +1,3 @@
+pub mod Face
+pub mod Small
+pub mod Demand1

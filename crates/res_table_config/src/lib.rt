@@ -1,0 +1,94 @@
+// The C face: five calls on numbers and byte slices, for the intake tool. A slice arrives as a pointer and then a length.
+//
+// Each answers one number: 01's number times 2^32, and the amount. So a success is below 2^32, and a refusal has amount 0.
+// A refusal changes no lent byte. Ages arrive as plain numbers.
+use answers::Told;
+use marking::marks;
+use order::cmp;
+use reading::amount;
+use reading::parse;
+use record::Age;
+use text::aged_text;
+use text::plain_text;
+ghost use mathlib.Core.Path.{_≡_};
+ghost use Prim.Native.Nat.{_<_};
+ghost use Rattle.marking.specs.Marks.{marksOutcome};
+ghost use Rattle.reading.specs.Reading.{amountOf};
+ghost use Rattle.record.specs.Table.{Bytes};
+ghost use Rattle.text.specs.Text.{agedText, plainText};
+ghost use Rattle.res_table_config.specs.Face.{answerOutcome, answerTells, orderTold};
+
+// What the type of a slice says of its elements, for the callers' proofs: it does nothing.
+fn are_bytes(bytes: &[u8])
+    ensures { λ _. ⌜ Bytes (now (bytes .entry)) ⌝ }
+{}
+
+// What a call tells as one number, from which it comes back.
+fn packed(told: Told) -> u64
+    requires { ⌜ told .amount < 4294967296 ⌝ }
+    ensures { λ r. ⌜ answerTells r ≡ told ⌝ }
+{
+    told.packed()
+}
+
+// How many bytes the record at the front of bytes takes.
+#[no_mangle]
+pub extern "C" fn res_table_config_take(bytes: &[u8]) -> u64
+    ensures { λ r. ⌜ answerTells r ≡ amountOf (now (bytes .entry)) ⌝ }
+{
+    are_bytes(bytes);
+    let answer = amount(bytes);
+    packed(answer.told())
+}
+
+// Writes the plain text of the record at the front of bytes.
+#[no_mangle]
+pub extern "C" fn res_table_config_text(bytes: &[u8], out: &mut [u8]) -> u64
+    ensures { λ r. ⌜ answerOutcome r (now (out .exit)) ≡ plainText (now (bytes .entry)) (now (out .entry)) ⌝ }
+{
+    are_bytes(bytes);
+    let answer = plain_text(bytes, out);
+    packed(answer.told())
+}
+
+// Writes the text of the record at the front of bytes for a reader of an age; a record that is held back at it is refused.
+#[no_mangle]
+pub extern "C" fn res_table_config_aged_text(bytes: &[u8], age: u32, out: &mut [u8]) -> u64
+    ensures { λ r. ⌜ answerOutcome r (now (out .exit)) ≡ agedText age (now (bytes .entry)) (now (out .entry)) ⌝ }
+{
+    are_bytes(bytes);
+    let answer = aged_text(bytes, Age(age), out);
+    packed(answer.told())
+}
+
+// Writes the fourteen marks of the record at the front of bytes, for a reader of an age.
+#[no_mangle]
+pub extern "C" fn res_table_config_marks(bytes: &[u8], age: u32, out: &mut [u8]) -> u64
+    ensures { λ r. ⌜ answerOutcome r (now (out .exit)) ≡ marksOutcome age (now (bytes .entry)) (now (out .entry)) ⌝ }
+{
+    let answer = marks(bytes, Age(age), out);
+    packed(answer.told())
+}
+
+// The order of the records at the front of a and of b: 0 for Less, 1 for Equal, 2 for Greater.
+#[no_mangle]
+pub extern "C" fn res_table_config_order(a: &[u8], b: &[u8]) -> u64
+    ensures { λ r. ⌜ answerTells r ≡ orderTold (now (a .entry)) (now (b .entry)) ⌝ }
+{
+    let parsed_a = parse(a);
+    let answer_a = parsed_a.answer;
+    let told_a = answer_a.told();
+    if told_a.number != 0 {
+        return packed(told_a);
+    }
+    let parsed_b = parse(b);
+    let answer_b = parsed_b.answer;
+    let told_b = answer_b.told();
+    if told_b.number != 0 {
+        return packed(told_b);
+    }
+    let first = parsed_a.record;
+    let second = parsed_b.record;
+    let order = cmp(first, second);
+    order.number() as u64
+}

@@ -1,3 +1,0 @@
-pub mod Shown
-pub mod Ended
-pub mod Demand1

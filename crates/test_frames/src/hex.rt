@@ -1,0 +1,35 @@
+// A line of lowercase hexadecimal digits.
+ghost use mathlib.Core.Path.{_≡_};
+ghost use mathlib.Core.List.{_∷_, []};
+ghost use Prim.Native.Nat.{_<_};
+ghost use Rattle.buffer.specs.Put.{Put};
+ghost use Rattle.test_frames.specs.Hex.{digitOf, hexOf, lineOf};
+
+// Puts the two digits of each byte and a newline at the line's front.
+pub fn line(bytes: &[u8], line: &mut [u8]) -> usize
+    ensures { λ r. ⌜ Put (now (line .entry)) 0 (lineOf (now (bytes .entry))) (now (line .exit)) r ⌝ }
+{
+    let mut end = 0;
+    let mut i = 0;
+    while i < bytes.len() {
+        end = digits(line, end, bytes[i]);
+        i += 1;
+    }
+    buffer::put_byte(line, end, b'\n')
+}
+
+// Puts a byte's two digits.
+fn digits(line: &mut [u8], at: usize, byte: u8) -> usize
+    ensures { λ r. ⌜ Put (now (line .entry)) at (hexOf (byte ∷ [])) (now (line .exit)) r ⌝ }
+{
+    let next = buffer::put_byte(line, at, digit(byte / 16));
+    buffer::put_byte(line, next, digit(byte % 16))
+}
+
+// The digit of a number below 16.
+fn digit(n: u8) -> u8
+    requires { ⌜ n < 16 ⌝ }
+    ensures { λ r. ⌜ r ≡ digitOf n ⌝ }
+{
+    if n < 10 { 48 + n } else { 87 + n }
+}

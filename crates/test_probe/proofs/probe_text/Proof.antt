@@ -1,0 +1,12 @@
+-- The text's outcome, its amount told by itself. Assumes nothing.
+use Rattle.test_probe.proofs.Answers.{text-told}
+use borrow.Author.Needs.{needs}
+use Rattle.test_probe.proofs.probe_text.Statement.{statement}
+use Rattle.test_probe.proofs.probe_text.Tie as tie
+
+pub probe-text-spec : {M : Type 1} → statement M
+probe-text-spec =
+    tie.close
+    (tie.spec
+    (λ c κs. search needs) (λ c κs. search needs) (λ c. search needs)
+    (λ c. text-told (c .before .before .before .plain-text .result) _ _ _ (c .before .before .before .plain-text .ensures) (c .told .ensures)))

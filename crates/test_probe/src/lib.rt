@@ -1,0 +1,173 @@
+// What the benchmark and the comparison at scale call of the port beyond the C face, each from bytes and answering one number.
+use answers::Taken;
+use answers::Told;
+use answers::Written;
+use lines::Cursor;
+use lines::first;
+use lines::line;
+use order::cmp;
+use order::eq;
+use reading::amount;
+use reading::parse;
+use record::Age;
+use record::ResTableConfig;
+use record::blank;
+use runs::walk;
+use text::plain_text;
+use writing::write;
+ghost use mathlib.Core.Path.{_≡_};
+ghost use Rattle.buffer.specs.Written.{outcome};
+ghost use Rattle.lines.specs.Lines.{lineOf};
+ghost use Rattle.reading.specs.Reading.{parseOf};
+ghost use Rattle.record.specs.Blank.{blankRecord, withSize};
+ghost use Rattle.order.specs.Order.{equalOf, orderOf, orderingTells};
+ghost use Rattle.runs.specs.Runs.{runOf};
+ghost use Rattle.text.specs.Text.{plainText};
+ghost use Rattle.test_probe.specs.Probe.{Comes, cursorPacked, endPacked, writeSized};
+
+// Whether the record that parsing bytes gives equals the one that holds nothing: so every field of it is looked at.
+#[no_mangle]
+pub extern "C" fn probe_blank(bytes: &[u8]) -> bool
+    ensures { λ r. ⌜ r ≡ equalOf (parseOf (now (bytes .entry)) .gives) blankRecord ⌝ }
+{
+    let parsed = parse(bytes);
+    let record = parsed.record;
+    eq(record, blank())
+}
+
+// Writes the plain text of the record at the front of bytes, and answers how many bytes it has, 0 where it is refused.
+#[no_mangle]
+pub extern "C" fn probe_text(bytes: &[u8], out: &mut [u8]) -> usize
+    ensures { λ r. ⌜ r ≡ plainText (now (bytes .entry)) (now (out .entry)) .tells .amount ⌝ }
+    ensures { λ _. ⌜ now (out .exit) ≡ plainText (now (bytes .entry)) (now (out .entry)) .leaves ⌝ }
+{
+    let answer = plain_text(bytes, out);
+    let told = answer.told();
+    told.amount
+}
+
+// The order of the records that parsing a and parsing b give: 0 for Less, 1 for Equal, 2 for Greater.
+#[no_mangle]
+pub extern "C" fn probe_order(a: &[u8], b: &[u8]) -> u32
+    ensures { λ r. ⌜ r ≡ orderingTells (orderOf (parseOf (now (a .entry)) .gives) (parseOf (now (b .entry)) .gives)) ⌝ }
+{
+    let parsed_a = parse(a);
+    let parsed_b = parse(b);
+    let first = parsed_a.record;
+    let second = parsed_b.record;
+    let order = cmp(first, second);
+    order.number()
+}
+
+// A cursor as one number: a record's place under its index, or one of the two greatest.
+fn cursor_packed(cursor: Cursor) -> u64
+    ensures { λ r. ⌜ r ≡ cursorPacked cursor ⌝ }
+{
+    match cursor {
+        Cursor::Start => 18446744073709551614,
+        Cursor::Record { index, place } => {
+            let told = Told {
+                number: (index % 4294967296) as u32,
+                amount: place,
+            };
+            told.packed()
+        }
+        Cursor::End => 18446744073709551615,
+    }
+}
+
+// Writes the first line of a listing of bytes at an age.
+#[no_mangle]
+pub extern "C" fn probe_first_line(bytes: &[u8], age: u32, out: &mut [u8]) -> u64
+    ensures { λ r. ⌜ Comes r (now (out .exit)) (lineOf age (now (bytes .entry)) Cursor.Start (now (out .entry)) .does) ⌝ }
+{
+    let lined = line(bytes, Age(age), first(), out);
+    let answer = lined.answer;
+    answer.told().packed()
+}
+
+// Writes the line of the record of an index at a place in a listing of bytes at an age, or where none stands there the last one.
+#[no_mangle]
+pub extern "C" fn probe_line(
+    bytes: &[u8],
+    age: u32,
+    index: usize,
+    place: usize,
+    out: &mut [u8],
+) -> u64
+    ensures { λ r. ⌜ Comes r (now (out .exit)) (lineOf age (now (bytes .entry)) (Cursor.Record index place) (now (out .entry)) .does) ⌝ }
+{
+    let lined = line(bytes, Age(age), Cursor::Record { index, place }, out);
+    let answer = lined.answer;
+    answer.told().packed()
+}
+
+// Writes that line too, and answers where the listing goes on.
+#[no_mangle]
+pub extern "C" fn probe_next(
+    bytes: &[u8],
+    age: u32,
+    index: usize,
+    place: usize,
+    out: &mut [u8],
+) -> u64
+    ensures { λ r. ⌜ r ≡ cursorPacked (lineOf age (now (bytes .entry)) (Cursor.Record index place) (now (out .entry)) .goes) ⌝ }
+    ensures { λ _. ⌜ now (out .exit) ≡ lineOf age (now (bytes .entry)) (Cursor.Record index place) (now (out .entry)) .does .leaves ⌝ }
+{
+    let lined = line(bytes, Age(age), Cursor::Record { index, place }, out);
+    let cursor = lined.cursor;
+    cursor_packed(cursor)
+}
+
+// Where the run of bytes that begins at a place stops, under the number with which it does.
+#[no_mangle]
+pub extern "C" fn probe_walk(bytes: &[u8], place: usize) -> u64
+    ensures { λ r. ⌜ r ≡ endPacked (runOf (now (bytes .entry)) place) ⌝ }
+{
+    let end = walk(bytes, place);
+    let told = Told {
+        number: end.number,
+        amount: end.stop,
+    };
+    told.packed()
+}
+
+// How many records the run of bytes that begins at a place has.
+#[no_mangle]
+pub extern "C" fn probe_records(bytes: &[u8], place: usize) -> usize
+    ensures { λ r. ⌜ r ≡ runOf (now (bytes .entry)) place .records ⌝ }
+{
+    let end = walk(bytes, place);
+    end.records
+}
+
+// The record with another size.
+fn sized(mut r: ResTableConfig, size: u32) -> ResTableConfig
+    ensures { λ s. ⌜ s ≡ withSize r size ⌝ }
+{
+    r.size = size;
+    r
+}
+
+// Writes the bytes of the record at the front of bytes, with another size.
+fn write_sized(bytes: &[u8], size: u32, out: &mut [u8]) -> Written
+    ensures { λ r. ⌜ outcome r (now (out .exit)) ≡ writeSized (now (bytes .entry)) size (now (out .entry)) ⌝ }
+{
+    match amount(bytes) {
+        Taken::Refused(why) => Written::Refused(why),
+        Taken::Took(_) => {
+            let parsed = parse(bytes);
+            let record = parsed.record;
+            write(sized(record, size), out)
+        }
+    }
+}
+
+// Writes those bytes.
+#[no_mangle]
+pub extern "C" fn probe_write(bytes: &[u8], size: u32, out: &mut [u8]) -> u64
+    ensures { λ r. ⌜ Comes r (now (out .exit)) (writeSized (now (bytes .entry)) size (now (out .entry))) ⌝ }
+{
+    let answer = write_sized(bytes, size, out);
+    answer.told().packed()
+}

@@ -1,0 +1,90 @@
+// What the port answers to each kind of question on a place of a run, by its tag. A payload is the age in four bytes, the place
+// in eight, how many bytes are lent in four, the lent bytes, and the run.
+use crate::records::put_amount;
+use crate::records::put_fields;
+use answers::Told;
+use answers::Written;
+use reader::RunReader;
+use record::Age;
+use runs::Stepped;
+ghost use mathlib.Core.Path.{_≡_};
+ghost use Rattle.runs.specs.Runs.{stepOf, stepOutcome};
+
+// Where the lent bytes stand in an answer, behind what the call tells.
+const LENT: usize = 12;
+
+// Answers a question at the front of `out`, and gives the answer's length. A tag that is none of these has no answer.
+pub(crate) fn answer(tag: u8, payload: &[u8], out: &mut [u8]) -> usize {
+    if payload.len() < 16 {
+        return 0;
+    }
+    let age = Age((test_frames::four(payload) % 4294967296) as u32);
+    let place = test_frames::eight(&payload[4..]);
+    let lent = test_frames::four(&payload[12..]);
+    let behind = &payload[16..];
+    let n = test_frames::front(lent, behind);
+    match tag {
+        37..=39 => put_stepped(out, stepped(tag, &behind[n..], place, age)),
+        40 => held(&behind[n..], place, age, out),
+        41 | 42 => wrote(tag, &behind[n..], place, age, &behind[..n], out),
+        _ => 0,
+    }
+}
+
+// The step at a place: by itself, through a reader made there, and through one of age 64 that is moved there.
+fn stepped(tag: u8, bytes: &[u8], place: usize, age: Age) -> Stepped {
+    match tag {
+        37 => runs::step_at(bytes, place, age),
+        38 => reader::read_at(bytes, place, age),
+        _ => sought(bytes, place),
+    }
+}
+
+// Reads the record at a place through a reader that is made without one and moved there.
+fn sought(bytes: &[u8], place: usize) -> Stepped
+    ensures { λ r. ⌜ stepOutcome r ≡ stepOf 64 (now (bytes .entry)) place ⌝ }
+{
+    RunReader::new(bytes).moved(place).next()
+}
+
+// Puts what a step tells, where the next one goes on, and the record.
+fn put_stepped(out: &mut [u8], stepped: Stepped) -> usize {
+    let step = stepped.answer;
+    let at = put_told(out, step.told());
+    let at = put_amount(out, at, stepped.next);
+    let record = stepped.record;
+    put_fields(out, at, record)
+}
+
+// Whether the record at a place is held back.
+fn held(bytes: &[u8], place: usize, age: Age, out: &mut [u8]) -> usize {
+    let from = test_frames::front(place, bytes);
+    let held = marking::held_back(&bytes[from..], age);
+    put_told(out, held.told())
+}
+
+// What a call that writes tells, and the lent bytes as it leaves them.
+fn wrote(tag: u8, bytes: &[u8], place: usize, age: Age, lent: &[u8], out: &mut [u8]) -> usize {
+    let end = buffer::put(out, LENT, lent);
+    let n = test_frames::front(end, out);
+    if n < LENT {
+        return 0;
+    }
+    let answer = written(tag, bytes, place, age, &mut out[LENT..n]);
+    put_told(out, answer.told());
+    n
+}
+
+// Writes the text or the marks of the record at a place.
+fn written(tag: u8, bytes: &[u8], place: usize, age: Age, out: &mut [u8]) -> Written {
+    match tag {
+        41 => runs::text_at(bytes, place, age, out),
+        _ => runs::marks_at(bytes, place, age, out),
+    }
+}
+
+// Puts what a call tells at the front: the number in four bytes, the amount in eight.
+fn put_told(out: &mut [u8], told: Told) -> usize {
+    let at = test_frames::put_four(out, 0, told.number);
+    put_amount(out, at, told.amount)
+}
