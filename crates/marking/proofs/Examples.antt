@@ -21,7 +21,7 @@ one-byte size before after = size ∷ replicate before 0 ++ (1 ∷ replicate aft
 
 pub examples :
     -- 1. fifteen zero bytes: 1; sixteen: taken, and not held back
-    (heldOf 16 (replicate 15 0) ≡ refusal 1)
+    (heldOf 16 (replicate 15 0) ≡ refusal Refusal.FewerThan16)
     × (heldOf 16 (replicate 16 0) ≡ success 0)
     -- 10. size 36, dp word not zero: age 32 holds back, 36 shows
     × (heldOf 32 (one-byte 36 31 3) ≡ success 1)
@@ -32,7 +32,7 @@ pub examples :
     -- 12. size 65, byte 64 is 1: age 64 holds back
     × (heldOf 64 (one-byte 65 63 0) ≡ success 1)
     -- the age is tested first
-    × (heldOf 33 [] ≡ refusal 3)
+    × (heldOf 33 [] ≡ refusal Refusal.NotAnAge)
     -- the listing's marks; a field is A where the record is too short to hold it, and never B
     × (marksOf 64 listed ≡ ascii "FFFAAAAAAAAAAA")
     × (marksOf 64 (replicate 16 0) ≡ ascii "BBBAAAAAAAAAAA")

@@ -6,7 +6,6 @@ use mathlib.Core.Bool.{Bool, not, cond}
 use lib.Dec.{ltb}
 use lib.ListN.{getD, take, drop}
 use Rattle.answers.specs.declared.Told.{Told}
-use Rattle.answers.specs.Numbers.{numberOf}
 use Rattle.answers.specs.Tells.{success, refusal}
 use Rattle.buffer.specs.Ascii.{ascii}
 use Rattle.buffer.specs.Written.{Outcome, written, refused}
@@ -46,10 +45,10 @@ heldBack a s = lateBytes s (taken s) a
 abbrev pub heldTells : Held → Told
 heldTells Held.No = success 0
 heldTells Held.Yes = success 1
-heldTells (Held.Refused why) = refusal (numberOf why)
+heldTells (Held.Refused why) = refusal why
 
 -- asking whether a record is held back: 3, 1, 2, then yes or no
 abbrev pub heldOf : ℕ → List ℕ → Told
 heldOf a s =
-    ifAge a (λ why. refusal (numberOf why))
-    (ifWhole s (λ why. refusal (numberOf why)) (success (cond (heldBack a s) 1 0)))
+    ifAge a refusal
+    (ifWhole s refusal (success (cond (heldBack a s) 1 0)))
