@@ -33,8 +33,8 @@ returns-2 c =
     let fits = front-fits s (a .offset) _ stands in
     let here = drop (a .offset) s in
     let reads =
-        c .read-to .ensures ∙ ap (readTo (limit .lesser .result)) (rest-is s (a .offset))
-        ∙ ap (λ (m : ℕ). readTo m here) (limit .lesser .ensures) ∙ read-aged (a .age .0) _ here (fits .0) (fits .1) in
+    c .read-to .ensures ∙ ap (readTo (limit .lesser .result)) (rest-is s (a .offset))
+    ∙ ap (λ (m : ℕ). readTo m here) (limit .lesser .ensures) ∙ read-aged (a .age .0) _ here (fits .0) (fits .1) in
     ap (λ (r : ResTableConfig). finds (a .offset + took .n .given .0 .0) r) reads
     ∙ sym (step-found (a .age .0) s (sym (not-false _ (known .if1 .left)) ∙ is-age .is-age .ensures) (a .offset) _ stands)
 
