@@ -49,9 +49,9 @@ part-listed s i k (suc n) h =
 pub row : (s : List ℕ) (i n : ℕ) → i + suc n ≤ length s → getD s i 0 ∷ listed s i 1 n ≡ take (suc n) (drop i s)
 row s i n h = sym (simp add-zero at (part-listed s i 0 (suc n) (omega arith)))
 
--- a list of n + 1 elements, one by one
-pub elements : (n : ℕ) (l : List ℕ) → length l ≡ suc n → getD l 0 0 ∷ listed l 0 1 n ≡ l
-elements n l h = row l 0 n (omega arith) ∙ take-all (suc n) l (omega arith)
+-- a list is its elements
+pub elements : (n : ℕ) (l : List ℕ) → length l ≡ n → listed l 0 0 n ≡ l
+elements n l h = sym (part-listed l 0 0 n (omega arith)) ∙ take-all n l (omega arith)
 
 -- P holds of each element of a list
 abbrev pub Each : {A : Type 0} → (A → Type 0) → List A → Type 0

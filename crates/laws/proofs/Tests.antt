@@ -41,11 +41,6 @@ pub passed : (a : Bool) → T a → a ≡ true
 passed true t = refl
 passed false t = absurd t
 
--- both of two computed tests that pass together
-pub pass-both : (a b : Bool) → T (a && b) → T a × T b
-pass-both true b t = (tt, t)
-pass-both false b t = absurd t
-
 -- 0 isn't 1, so from that anything follows
 pub clash : {A : Type 0} → _≡_ {A = ℕ} 0 1 → A
 clash z = absurd (none z)

@@ -8,7 +8,7 @@ use lib.ListN.{length, length-append}
 use mir.Val.{Val}
 use denote.Laws.{Is}
 use borrow.Author.Needs.{needs}
-use Rattle.answers.proofs.Says.{chosen}
+use Rattle.laws.proofs.Choice.{chosen}
 use Rattle.buffer.specs.Ascii.{ascii}
 use Rattle.subtag.specs.Subtag.{subtagOf}
 use Rattle.subtag.proofs.Long.{subtag-long}

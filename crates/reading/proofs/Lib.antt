@@ -1,5 +1,4 @@
 pub mod Rows
-pub mod Parts
 pub mod Records
 pub mod FieldBytes
 pub mod Limits

@@ -1,4 +1,5 @@
 pub mod Among
+pub mod Bytes
 pub mod Ends
 pub mod OneOutcome
 pub mod Twelve

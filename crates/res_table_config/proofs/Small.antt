@@ -10,7 +10,7 @@ use Rattle.answers.specs.declared.Refusal.{Refusal}
 use Rattle.answers.specs.Numbers.{numberOf}
 use Rattle.answers.specs.Tells.{success, refusal}
 use Rattle.answers.proofs.OneToOne.{number-most}
-use Rattle.answers.proofs.Says.{chosen}
+use Rattle.laws.proofs.Choice.{chosen}
 use Rattle.buffer.specs.Written.{Outcome, written}
 use Rattle.order.specs.declared.Ordering.{Ordering}
 use Rattle.record.specs.Ages.{isAge}

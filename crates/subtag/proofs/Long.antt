@@ -8,6 +8,7 @@ use native.Mathlib.Decide.{ℕ-discrete}
 use native.Mathlib.Nat.{min-le-left}
 use lib.ListN.{length, drop, length-append, length-drop, length-take}
 use borrow.Author.Tests.{eq-eqb, ne-eqb}
+use Rattle.laws.proofs.Lists.{Each}
 use Rattle.subtag.specs.declared.utf8.Front.{Front}
 use Rattle.subtag.specs.Utf8.{frontOf}
 use Rattle.subtag.specs.Subtag.{pieceOf, sizeOf, replaced, keep, dropNuls, subtagOf}
@@ -72,8 +73,7 @@ low-front b s h =
 
 -- all bytes below 80
 abbrev pub Low : List ℕ → Type 0
-Low [] = Unit {0}
-Low (b ∷ s) = (b < 128) × Low s
+Low s = Each (λ b. b < 128) s
 
 low-same : (s : List ℕ) → Low s → replaced s ≡ s
 low-same [] h = replaced-none [] refl

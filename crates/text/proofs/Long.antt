@@ -7,7 +7,7 @@ use lib.Dec.{eqb}
 use lib.ListN.{length, length-append}
 use mir.Val.{Val}
 use denote.Laws.{Is}
-use Rattle.answers.proofs.Says.{chosen}
+use Rattle.laws.proofs.Choice.{chosen}
 use Rattle.buffer.specs.Ascii.{ascii}
 use Rattle.buffer.specs.Decimal.{decimal}
 use Rattle.buffer.proofs.Digits.{decimal-long}

@@ -7,7 +7,7 @@ use native.Mathlib.Omega.{arith}
 use native.Mathlib.Decide.{decLt}
 use lib.ListN.{length, drop, replicate, length-take, length-replicate, drop-of-length-le}
 use lib.Seq.{drop-cons}
-use Rattle.answers.proofs.Says.{chosen}
+use Rattle.laws.proofs.Choice.{chosen}
 use Rattle.record.specs.Table.{Bytes, part, le, startOf, widthOf}
 use Rattle.reading.specs.Reading.{fieldBy, recordBy, plain, aged}
 use Rattle.places.specs.Places.{textOf}

@@ -7,6 +7,8 @@ use native.Mathlib.Omega.{arith}
 use lib.ListN.{length, drop, replicate, length-replicate}
 use lib.Seq.{drop-at}
 use borrow.Author.Tests.{not-false, ltb-false}
+use Rattle.laws.proofs.Tests.{or-neither}
+use Rattle.laws.proofs.Below.{each-spot, each-stop, each-at}
 use Rattle.answers.specs.declared.Refusal.{Refusal}
 use Rattle.answers.specs.declared.Written.{Written}
 use Rattle.answers.proofs.Exactly.{Goes, one-unless}
@@ -19,7 +21,6 @@ use Rattle.record.specs.declared.ResTableConfig.{ResTableConfig}
 use Rattle.reading.specs.Reading.{reads}
 use Rattle.writing.specs.Writing.{bytesOf, span, shown, keeps, tidy, writeOf, Shaped}
 use Rattle.writing.specs.Demand1.{unreadField, Stray, UntidyWhenStray, WriterRefuses}
-use Rattle.writing.proofs.Below.{or-neither, each-place, each-stop, each-at}
 use Rattle.writing.proofs.Places.{shown-long}
 
 -- a field that isn't read, and isn't zero
@@ -53,7 +54,7 @@ module _ (r : ResTableConfig) (w : Shaped r) (old : List ℕ) (fine : tidy r ≡
 stray : (r : ResTableConfig) → tidy r ≡ false → Stray r
 unfolding tidy
 stray r e =
-    let w = each-place 15 (keeps r) e in
+    let w = each-spot 15 (keeps r) e in
     let p = or-neither (w .gives) in
     record { field = w .place; within = w .within; skipped = p .0; filled = p .1 }
 

@@ -6,8 +6,9 @@ use mathlib.Core.Bool.{Bool, true, false, not}
 use mathlib.Core.List.{List, [], _∷_, _++_, append-nil}
 use native.Mathlib.Omega.{arith}
 use lib.Dec.{lit<}
-use lib.ListN.{length, getD, take, drop, replicate, length-append, length-take, length-drop, List·getD-append}
+use lib.ListN.{length, getD, take, drop, replicate, length-append, List·getD-append}
 use lib.Seq.{ext-getD, getD-take, getD-drop, take-at}
+use Rattle.laws.proofs.Lists.{part-long}
 use Rattle.buffer.specs.Written.{Outcome}
 use Rattle.record.specs.Table.{part, le, allZero, startOf, widthOf, bit}
 use Rattle.record.specs.declared.ResTableConfig.{ResTableConfig}
@@ -21,10 +22,6 @@ use Rattle.writing.proofs.Answers.{wrote-is, unread-zero, took-tidy}
 use Rattle.writing.proofs.Order.{end-within}
 use Rattle.writing.proofs.Places.{bytes-long, shown-in, shown-long}
 use Rattle.writing.proofs.Zeros.{zeros-of}
-
--- a part that is there has its length
-pub part-long : (s : List ℕ) (a n : ℕ) → a + n ≤ length s → length (part s a n) ≡ n
-part-long s a n h = omega (arith, length-take n (drop a s), length-drop a s)
 
 -- a word that is written is read again
 word-round : (x : ℕ) → le (bytes4 x) ≡ x

@@ -1,4 +1,3 @@
-pub mod Below
 pub mod Zeros
 pub mod Shapes
 pub mod Arms

@@ -8,12 +8,12 @@ use lib.Dec.{leb, ltb, lit≤}
 use lib.ListN.{length, getD, take, length-replicate, List·getD-append}
 use lib.Seq.{paste, length-paste, take-paste, drop-paste, length-take-le, getD-take, getD-drop, getD-append-add}
 use borrow.Author.Tests.{ltb-true, ltb-false, leb-false}
+use Rattle.laws.proofs.Below.{none, _then_, all-at, none-at}
 use Rattle.record.specs.Table.{startOf, endOf, widthOf}
 use Rattle.reading.specs.Reading.{reads}
 use Rattle.record.specs.declared.ResTableConfig.{ResTableConfig}
 use Rattle.reading.proofs.Limits.{start-end}
 use Rattle.writing.specs.Writing.{bytesOf, span, laid, shown, inField, decoded, Shaped}
-use Rattle.writing.proofs.Below.{none, _then_, all-at, none-at}
 use Rattle.writing.proofs.Zeros.{zeros-at}
 use Rattle.writing.proofs.Order.{ordered, end-within}
 

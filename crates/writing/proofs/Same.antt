@@ -8,19 +8,20 @@ use native.Mathlib.Omega.{arith}
 use lib.Dec.{lit<}
 use lib.ListN.{length, getD, take, drop, replicate, length-replicate}
 use lib.Seq.{ext-getD, getD-take, length-take-le, take-at}
+use Rattle.laws.proofs.Tests.{and-both}
+use Rattle.laws.proofs.Below.{none, _then_, all-at, Spot, some-spot, each-here}
+use Rattle.laws.proofs.Lists.{part-long, part-at}
 use Rattle.buffer.specs.Written.{Outcome}
 use Rattle.record.specs.Table.{Bytes, part, le, allZero, startOf, endOf, widthOf, bit}
 use Rattle.reading.specs.Reading.{reads, fieldBy, recordBy, plain, sizeOf, taken}
 use Rattle.reading.proofs.Limits.{start-end}
 use Rattle.writing.specs.Writing.{bytes4, bytesOf, span, inField, decoded, keeps, tidy, shown, Shaped, Kept}
 use Rattle.writing.specs.Demand2.{SameBytes, WritesBack}
-use Rattle.writing.proofs.Below.{none, _then_, all-at, and-both, Place, some-place, each-here}
-use Rattle.writing.proofs.Zeros.{all-zeros, part-at}
+use Rattle.writing.proofs.Zeros.{all-zeros}
 use Rattle.writing.proofs.Bytes.{part-bytes, zeros-bytes, word-back, yes-back, bit-most}
 use Rattle.writing.proofs.Order.{in-says, end-within}
 use Rattle.writing.proofs.Places.{shown-in, shown-out, shown-long}
 use Rattle.writing.proofs.Answers.{wrote-is}
-use Rattle.writing.proofs.Back.{part-long}
 
 -- s: bytes, with a whole record at their front
 module _ (s : List ℕ) (small : Bytes s) (whole : taken s ≤ length s) where
@@ -116,7 +117,7 @@ module _ (s : List ℕ) (small : Bytes s) (whole : taken s ≤ length s) where
   out-none : (k : ℕ) → decoded (sizeOf s) k ≡ false → getD (shown (plain s)) k 0 ≡ 0
   out-none k e = shown-out (plain s) shaped-read k (ap (λ (m : ℕ). decoded m k) same-size ∙ e)
 
-  in-place : (k : ℕ) → Low → Place 15 (λ f. held f && inField k f) true → getD (shown (plain s)) k 0 ≡ getD s k 0
+  in-place : (k : ℕ) → Low → Spot 15 (λ f. held f && inField k f) true → getD (shown (plain s)) k 0 ≡ getD s k 0
   in-place k c w =
       let f = w .place in
       let p = and-both (w .gives) in
@@ -127,7 +128,7 @@ module _ (s : List ℕ) (small : Bytes s) (whole : taken s ≤ length s) where
 
   kept-by : Kept s → (k : ℕ) → k < taken s → (b : Bool) → decoded (sizeOf s) k ≡ b → getD (shown (plain s)) k 0 ≡ getD s k 0
   unfolding decoded
-  kept-by w k h true e = in-place k (w .computed) (some-place 15 (λ f. held f && inField k f) e)
+  kept-by w k h true e = in-place k (w .computed) (some-spot 15 (λ f. held f && inField k f) e)
   kept-by w k h false e = out-none k e ∙ sym (w .skipped k h e)
 
   kept-then : Kept s → shown (plain s) ≡ take (taken s) s

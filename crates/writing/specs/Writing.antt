@@ -6,21 +6,12 @@ use mathlib.Core.Bool.{Bool, true, false, cond, _||_, _&&_}
 use lib.Dec.{leb, ltb}
 use lib.ListN.{length, getD, replicate}
 use lib.Seq.{paste}
+use Rattle.laws.specs.Below.{someBelow, eachBelow}
 use Rattle.answers.specs.declared.Refusal.{Refusal}
 use Rattle.buffer.specs.Written.{Outcome, written, refused}
 use Rattle.record.specs.declared.ResTableConfig.{ResTableConfig}
 use Rattle.record.specs.Table.{startOf, endOf, widthOf, allZero, bit}
 use Rattle.reading.specs.Reading.{reads, sizeOf, taken}
-
--- p holds at some of the numbers below n
-unfoldable pub some : ℕ → (ℕ → Bool) → Bool
-some zero p = false
-some (suc n) p = p n || some n p
-
--- p holds at each of the numbers below n
-unfoldable pub each : ℕ → (ℕ → Bool) → Bool
-each zero p = true
-each (suc n) p = p n && each n p
 
 -- the four little-endian bytes of a word
 abbrev pub bytes4 : ℕ → List ℕ
@@ -69,7 +60,7 @@ keeps r f = reads (r .size) f || allZero (bytesOf r f)
 
 -- every field that isn't read at the record's size is zero
 unfoldable pub tidy : ResTableConfig → Bool
-tidy r = each 15 (keeps r)
+tidy r = eachBelow 15 (keeps r)
 
 -- writing a record: 6 when a field that isn't read at its size isn't zero, then 5; else its T bytes
 unfoldable pub writeOf : ResTableConfig → List ℕ → Outcome
@@ -88,7 +79,7 @@ inField k f = leb (startOf f) k && ltb k (endOf f)
 
 -- place k lies in a field that is read at that size
 unfoldable pub decoded : ℕ → ℕ → Bool
-decoded size k = some 15 (λ f. reads size f && inField k f)
+decoded size k = someBelow 15 (λ f. reads size f && inField k f)
 
 -- the bytes of a record that say no more than the record: of its T bytes those in no read field are zero, and the computed
 -- byte, where it is read, is 0 or 1

@@ -5,8 +5,10 @@ use Prim.Native.Nat.{ℕ}
 use native.Mathlib.Omega.{arith}
 use lib.ListN.{length, take}
 use lib.Seq.{take-all}
+use Rattle.laws.proofs.Arms.{last-one}
+use Rattle.laws.proofs.Lists.{elements}
 use Rattle.writing.specs.Writing.{bytesOf}
-use Rattle.writing.proofs.Arms.{elements, arm, last-one}
+use Rattle.writing.proofs.Arms.{arm}
 use Rattle.writing.proofs.Shapes.{shaped}
 use borrow.Author.Needs.{needs}
 use Rattle.writing.proofs.field_of.Statement.{statement}
@@ -52,7 +54,7 @@ returns-10 : tie.Need-returns-10
 unfolding bytesOf
 returns-10 c =
     let s = c .before .before .before in
-    arm (s .args .r) 9 (s .args .f) (c .four .result) (omega arith) (ap (take 4) (c .four .ensures) ∙ elements 3 (s .args .r .«locale_script») (search needs))
+    arm (s .args .r) 9 (s .args .f) (c .four .result) (omega arith) (ap (take 4) (c .four .ensures) ∙ elements 4 (s .args .r .«locale_script») (search needs))
 
 returns-11 : tie.Need-returns-11
 unfolding bytesOf
@@ -82,7 +84,7 @@ returns-15 : tie.Need-returns-15
 unfolding bytesOf
 returns-15 c =
     let s = c .before .before .before in
-    arm (s .args .r) 14 (s .args .f) (c .three .result) (last-one 14 (s .args .f) (c .before .before .match .rest) (s .pre)) (ap (take 3) (c .three .ensures) ∙ elements 2 (s .args .r .«end_padding») (shaped (s .args .r) _ (s .good .0) .padding))
+    arm (s .args .r) 14 (s .args .f) (c .three .result) (last-one 14 (s .args .f) (c .before .before .match .rest) (s .pre)) (ap (take 3) (c .three .ensures) ∙ elements 3 (s .args .r .«end_padding») (shaped (s .args .r) _ (s .good .0) .padding))
 
 pub field-of-spec : {M : Type 1} → statement M
 field-of-spec =
