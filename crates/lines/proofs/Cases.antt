@@ -78,7 +78,7 @@ module _ (a i p : ℕ) (s old : List ℕ) where
     unfolding lineAt after reasonAt
     stop-went why number e n o g =
         let x = rest s from in
-        let w : refusal (numberOf why) ≡ amountOf x = rw e at told in
+        let w : refusal why ≡ amountOf x = rw e at told in
         rw (le-ltb p i h, ← rest-from s p from start, refused-whole x _ _ why w, refused-whole x _ _ why w, refused-whole x _ _ why w, ← n)
         (went _ old here _ answer new lined o g)
 

@@ -9,7 +9,6 @@ use lib.ListN.{length, drop, length-drop}
 use lib.Seq.{getD-drop}
 use borrow.Author.Tests.{le-ltb, lt-ltb}
 use Rattle.answers.specs.declared.Refusal.{Refusal}
-use Rattle.answers.specs.Numbers.{numberOf}
 use Rattle.answers.specs.Tells.{refusal}
 use Rattle.answers.proofs.OneToOne.{number-most}
 use Rattle.answers.proofs.Says.{chosen}
@@ -34,7 +33,7 @@ pub record Gives (a : ℕ) (s : List ℕ) (c : Cursor) (ws : List (List ℕ)) (d
   pub leads : (olds : List (List ℕ)) → Roomy olds → length olds ≡ length ws → cursorOf a s c olds ≡ d
 
 -- the number with which a run stops has one digit
-reason-most : (s : List ℕ) (p : ℕ) (why : Refusal) → refusal (numberOf why) ≡ amountOf (drop p s) → reasonAt s p ≤ 7
+reason-most : (s : List ℕ) (p : ℕ) (why : Refusal) → refusal why ≡ amountOf (drop p s) → reasonAt s p ≤ 7
 unfolding reasonAt
 reason-most s p why e = rw (refused-whole (drop p s) _ _ why e) (chosen (λ (n : ℕ). n ≤ 7) (eqb p (length s)) (lit≤ tt) (number-most why))
 
@@ -79,7 +78,7 @@ module _ (a : ℕ) (s : List ℕ) (known : isAge a ≡ true) (small : length s �
     goes-here = rw (le-ltb p i before)
 
     -- where no record stands whole, the last line
-    stop-last : p ≤ length s → (why : Refusal) → refusal (numberOf why) ≡ amountOf (drop p s)
+    stop-last : p ≤ length s → (why : Refusal) → refusal why ≡ amountOf (drop p s)
         → Gives a s (Cursor.Record i p) (stopLine p (reasonAt s p) ∷ []) Cursor.End
     stop-last inside why e =
         let digits = decimal-long 4 p (omega arith) in

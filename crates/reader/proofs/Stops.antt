@@ -22,7 +22,7 @@ front-age b = (refl, refl)
 
 -- with its place past the bytes a reader stops at that place with 1
 pub past-stops : (d : RunReader) → true ≡ isAge (d .age .0) → length (now (d .bytes)) < d .place
-    → stepOf (d .age .0) (now (d .bytes)) (d .place) ≡ stepStays (d .place) (refusal 1)
+    → stepOf (d .age .0) (now (d .bytes)) (d .place) ≡ stepStays (d .place) (refusal Refusal.FewerThan16)
 past-stops d known past =
     step-refused (d .age .0) (now (d .bytes)) (d .place) known (λ e. omega arith) Refusal.FewerThan16
     (past-end (now (d .bytes)) (d .place) (omega arith))

@@ -6,7 +6,6 @@ use mathlib.Core.List.{List, [], _∷_}
 use lib.Dec.{eqb}
 use lib.ListN.{length, drop}
 use Rattle.answers.specs.declared.Refusal.{Refusal}
-use Rattle.answers.specs.Numbers.{numberOf}
 use Rattle.answers.specs.Tells.{success, refusal}
 use Rattle.answers.specs.Demand1.{unless}
 use Rattle.answers.proofs.Exactly.{Goes, none-left, row-exactly}
@@ -31,7 +30,7 @@ good false p n r = refl
 pub step-exactly : (a : ℕ) (s : List ℕ) (p : ℕ) → StepRefuses a s p
 unfolding stepOf
 step-exactly a s p =
-    row-exactly (λ (o : StepOutcome). o .tells .number) (λ why. stepStays p (refusal (numberOf why)))
+    row-exactly (λ (o : StepOutcome). o .tells) (λ why. stepStays p (refusal why))
     (cond (eqb p (length s)) (stepStays p (success 0)) (stepFound (p + taken (drop p s)) (aged a (drop p s))))
     (λ why. refl) (good (eqb p (length s)) p _ _)
     (age-row a (unless-row _ _ _ (eqb p (length s)) (drop p s)))

@@ -3,6 +3,7 @@ use Prim.Native.Nat.{ℕ}
 use mathlib.Core.Path.{_≡_, refl}
 use mathlib.Core.List.{List, [], _∷_, _++_}
 use lib.ListN.{replicate}
+use Rattle.answers.specs.declared.Refusal.{Refusal}
 use Rattle.answers.specs.Tells.{success, refusal}
 use Rattle.record.specs.Ages.{isAge}
 use Rattle.reading.specs.Reading.{ifAge, ifWhole}
@@ -20,8 +21,8 @@ pub examples :
     × (runOf (replicate 16 0 ++ (17 ∷ replicate 15 0)) 0 ≡ record { records = 1; stop = 16; number = 2 })
     × (runOf [] 0 ≡ record { records = 0; stop = 0; number = 0 })
     × (runOf run 99 ≡ record { records = 0; stop = 99; number = 1 })
-    × (stepOf 42 run 0 ≡ stepStays 0 (refusal 3))
+    × (stepOf 42 run 0 ≡ stepStays 0 (refusal Refusal.NotAnAge))
     × (stepOf 16 run 35 ≡ stepStays 35 (success 0))
-    × (stepOf 16 run 36 ≡ stepStays 36 (refusal 1))
+    × (stepOf 16 run 36 ≡ stepStays 36 (refusal Refusal.FewerThan16))
 unfolding offsetsIn stopIn reasonAt stepOf ifWhole ifAge isAge
 examples = (refl, refl, refl, refl, refl, refl, refl, refl, refl, refl)

@@ -9,7 +9,6 @@ use lib.ListN.{length, drop}
 use borrow.Author.Tests.{eqb-true, eqb-false}
 use Rattle.answers.specs.declared.Refusal.{Refusal}
 use Rattle.answers.specs.declared.Told.{Told}
-use Rattle.answers.specs.Numbers.{numberOf}
 use Rattle.answers.specs.Tells.{success, refusal}
 use Rattle.record.specs.Ages.{isAge}
 use Rattle.reading.specs.Reading.{amountOf}
@@ -22,7 +21,7 @@ use Rattle.runs.proofs.Stops.{stop-not-whole}
 
 module _ (a : ℕ) (s : List ℕ) (known : true ≡ isAge a) where
   -- where no whole record stands a step tells the reason
-  step-none : (p : ℕ) (why : Refusal) → refusal (numberOf why) ≡ amountOf (drop p s) → stepOf a s p .tells ≡ refusal (reasonAt s p)
+  step-none : (p : ℕ) (why : Refusal) → refusal why ≡ amountOf (drop p s) → stepOf a s p .tells ≡ refusal (reasonAt s p)
   step-none p why e = by (eqb p (length s)) refl where
     by : (b : Bool) → eqb p (length s) ≡ b → stepOf a s p .tells ≡ refusal (reasonAt s p)
     by true t =

@@ -7,7 +7,6 @@ use lib.ListN.{length, drop}
 use borrow.Author.Tests.{eq-eqb, ne-eqb}
 use Rattle.answers.specs.declared.Refusal.{Refusal}
 use Rattle.answers.specs.declared.Taken.{Taken}
-use Rattle.answers.specs.Numbers.{numberOf}
 use Rattle.answers.specs.Tells.{success, refusal, takenTells}
 use Rattle.record.specs.Ages.{isAge}
 use Rattle.record.specs.declared.ResTableConfig.{ResTableConfig}
@@ -19,7 +18,7 @@ use Rattle.runs.specs.Runs.{stepOf, stepStays, stepFound}
 use Rattle.runs.proofs.Rest.{rest, rest-from}
 
 -- 3 comes first
-pub step-unknown : (a : ℕ) (s : List ℕ) (p : ℕ) → false ≡ isAge a → stepOf a s p ≡ stepStays p (refusal (numberOf Refusal.NotAnAge))
+pub step-unknown : (a : ℕ) (s : List ℕ) (p : ℕ) → false ≡ isAge a → stepOf a s p ≡ stepStays p (refusal Refusal.NotAnAge)
 unfolding stepOf
 step-unknown a s p h = age-unknown a _ _ h
 
@@ -32,12 +31,12 @@ module _ (a : ℕ) (s : List ℕ) (p : ℕ) (known : true ≡ isAge a) where
   module _ (within : p ≡ length s → ⊥) where
     -- elsewhere it goes by the bytes from the place on
     inside : stepOf a s p
-        ≡ ifWhole (drop p s) (λ why. stepStays p (refusal (numberOf why))) (stepFound (p + taken (drop p s)) (aged a (drop p s)))
+        ≡ ifWhole (drop p s) (λ why. stepStays p (refusal why)) (stepFound (p + taken (drop p s)) (aged a (drop p s)))
     unfolding stepOf
     inside = age-known a _ _ known ∙ rw (ne-eqb p (length s) within)
 
     -- no whole record stands there
-    pub step-refused : (why : Refusal) → refusal (numberOf why) ≡ amountOf (drop p s) → stepOf a s p ≡ stepStays p (refusal (numberOf why))
+    pub step-refused : (why : Refusal) → refusal why ≡ amountOf (drop p s) → stepOf a s p ≡ stepStays p (refusal why)
     step-refused why e = inside ∙ refused-whole (drop p s) _ _ why e
 
     -- a whole record stands there
@@ -53,7 +52,7 @@ module _ (a : ℕ) (s : List ℕ) (p m : ℕ) (known : true ≡ isAge a) (e : m 
   told : takenTells (q .answer) ≡ amountOf (drop p s)
   told = ap (λ (o : ParseOutcome). o .tells) at-place ∙ aged-tells a (drop p s) known
 
-  pub parse-refused : (why : Refusal) → q .answer ≡ Taken.Refused why → refusal (numberOf why) ≡ amountOf (drop p s)
+  pub parse-refused : (why : Refusal) → q .answer ≡ Taken.Refused why → refusal why ≡ amountOf (drop p s)
   parse-refused why h = rw h at told
 
   pub parse-took : (n : ℕ) → q .answer ≡ Taken.Took n → success n ≡ amountOf (drop p s)

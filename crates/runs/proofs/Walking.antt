@@ -31,7 +31,7 @@ module _ (s : List ℕ) (p n : ℕ) (took : success n ≡ amountOf (drop p s)) w
   stop-next k = took-whole (drop p s) _ _ n took ∙ ap (λ (m : ℕ). stopIn k s (p + m)) (sym (took-says (drop p s) n took .0))
 
 -- no whole record stands at place p
-module _ (s : List ℕ) (p : ℕ) (why : Refusal) (not-whole : refusal (numberOf why) ≡ amountOf (drop p s)) where
+module _ (s : List ℕ) (p : ℕ) (why : Refusal) (not-whole : refusal why ≡ amountOf (drop p s)) where
   pub offset-none : (k : ℕ) → offsetsIn k s p ≡ []
   unfolding offsetsIn
   offset-none zero = refl
@@ -48,7 +48,7 @@ module _ (s : List ℕ) (p : ℕ) (why : Refusal) (not-whole : refusal (numberOf
   reason-refused h = rw (ne-eqb p (length s) h) (refused-whole (drop p s) numberOf 0 why not-whole)
 
 -- from the end on no record stands
-pub past-end : (s : List ℕ) (p : ℕ) → length s ≤ p → refusal (numberOf Refusal.FewerThan16) ≡ amountOf (drop p s)
+pub past-end : (s : List ℕ) (p : ℕ) → length s ≤ p → refusal Refusal.FewerThan16 ≡ amountOf (drop p s)
 past-end s p h = sym (whole-short (drop p s) _ _ (omega (arith, length-drop p s)))
 
 -- at the exact end the reason is 0
@@ -92,7 +92,7 @@ same : {c c′ q q′ m m′ : ℕ} → c ≡ c′ → q ≡ q′ → m ≡ m′
 same e f g = cc
 
 -- where no whole record stands the run is over
-pub arrives : (s : List ℕ) (p q c number : ℕ) (why : Refusal) → Walked s p q c → refusal (numberOf why) ≡ amountOf (drop q s) → number ≡ reasonAt s q
+pub arrives : (s : List ℕ) (p q c number : ℕ) (why : Refusal) → Walked s p q c → refusal why ≡ amountOf (drop q s) → number ≡ reasonAt s q
     → ended c q number ≡ runOf s p
 arrives s p q c number why w e r =
     let t : q ≡ stopIn (most s) s p = sym (w .stops ∙ stop-here s q why e (most s - c)) in
@@ -106,5 +106,5 @@ module _ (s : List ℕ) (q : ℕ) (answer : Taken) (told : takenTells answer ≡
   pub amount-took : (n : ℕ) → answer ≡ Taken.Took n → success n ≡ amountOf (drop q s)
   amount-took n e = rw e at at-place
 
-  pub amount-refused : (why : Refusal) → answer ≡ Taken.Refused why → refusal (numberOf why) ≡ amountOf (drop q s)
+  pub amount-refused : (why : Refusal) → answer ≡ Taken.Refused why → refusal why ≡ amountOf (drop q s)
   amount-refused why e = rw e at at-place

@@ -49,7 +49,7 @@ runOf s p = record { records = length (offsetsOf s p); stop = stopOf s p; number
 abbrev pub stepTells : Step → Told
 stepTells Step.Found = success 1
 stepTells Step.Ended = success 0
-stepTells (Step.Refused why) = refusal (numberOf why)
+stepTells (Step.Refused why) = refusal why
 
 -- what a step comes to: what it tells, the place where the next step goes on, and the record
 pub record StepOutcome : Type 0 where
@@ -72,6 +72,6 @@ stepStays p told = record { tells = told; next = p; gives = blankRecord }
 -- a step at place p of s by a reader of age a: 3; at the exact end none; else 1, 2, or the record as the age reads it
 unfoldable pub stepOf : ℕ → List ℕ → ℕ → StepOutcome
 stepOf a s p =
-    ifAge a (λ why. stepStays p (refusal (numberOf why)))
+    ifAge a (λ why. stepStays p (refusal why))
     (cond (eqb p (length s)) (stepStays p (success 0))
-    (ifWhole (drop p s) (λ why. stepStays p (refusal (numberOf why))) (stepFound (p + taken (drop p s)) (aged a (drop p s)))))
+    (ifWhole (drop p s) (λ why. stepStays p (refusal why)) (stepFound (p + taken (drop p s)) (aged a (drop p s)))))
