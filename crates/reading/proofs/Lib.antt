@@ -2,6 +2,7 @@ pub mod Rows
 pub mod Records
 pub mod FieldBytes
 pub mod Limits
+pub mod Shapes
 pub mod Whole
 pub mod OneOutcome
 pub mod Exactly

@@ -10,7 +10,7 @@ use lib.Dec.{leb, ltb}
 use lib.ListN.{length}
 use borrow.Author.Tests.{le-leb, lt-leb, leb-true, ltb-true}
 use Rattle.laws.proofs.Below.{in-row}
-use Rattle.record.specs.Table.{startOf, endOf}
+use Rattle.record.specs.Table.{startOf, endOf, bytesTaken}
 use Rattle.reading.specs.Reading.{reads, recordBy, plain, aged, sizeOf, taken, readTo}
 use Rattle.reading.proofs.FieldBytes.{record-by}
 
@@ -36,9 +36,13 @@ rule e size false t =
     ]
 
 -- a field is read exactly when it ends within T
-pub reads-is : (f size : ℕ) → f < 15 → reads size f ≡ leb (endOf f) (max size 16)
+pub reads-is : (f size : ℕ) → f < 15 → reads size f ≡ leb (endOf f) (bytesTaken size)
 unfolding reads
 reads-is f size h = rule (endOf f) size (ltb f 4) (first-four f h)
+
+-- a field that is read ends within T
+pub end-within : (size f : ℕ) → f < 15 → reads size f ≡ true → endOf f ≤ bytesTaken size
+end-within size f h e = leb-true (endOf f) (bytesTaken size) (sym (reads-is f size h) ∙ e)
 
 both : (e t a : ℕ) → leb e a && leb e t ≡ leb e (min t a)
 both e t a =

@@ -16,7 +16,7 @@ use Rattle.buffer.specs.Put.{Put}
 use Rattle.buffer.proofs.Putting.{put-put, put-nil}
 use Rattle.subtag.specs.declared.utf8.Front.{Front}
 use Rattle.subtag.specs.Utf8.{table, rowOf, within, okAt, matched, judge, frontOf}
-use Rattle.subtag.specs.Subtag.{replacement, pieceOf, sizeOf, replacedBy, replaced}
+use Rattle.subtag.specs.Subtag.{replacement, pieceOf, frontSize, replacedBy, replaced}
 use Rattle.subtag.specs.Steps.{Fronted}
 
 -- a byte that is in a range is there
@@ -33,21 +33,21 @@ matched-le (r ∷ rs) s i h =
 
 -- a piece has a byte at least, and no more than there are
 Sized : List ℕ → Front → Type 0
-Sized s f = (1 ≤ sizeOf f) × (sizeOf f ≤ length s)
+Sized s f = (1 ≤ frontSize f) × (frontSize f ≤ length s)
 
 judged : (o : Option (List (ℕ × ℕ))) (s : List ℕ) → 0 < length s → Sized s (judge o s)
 unfolding Sized
 judged none s h = (omega arith, omega arith)
 judged (some rs) s h =
-    chosen-by (λ (f : Front). (1 ≤ sizeOf f) × (sizeOf f ≤ length s)) (eqb (matched rs s 1) (length rs))
+    chosen-by (λ (f : Front). (1 ≤ frontSize f) × (frontSize f ≤ length s)) (eqb (matched rs s 1) (length rs))
     (λ e. (omega arith, omega (arith, matched-le rs s 1 (omega arith), eqb-true (matched rs s 1) (length rs) e)))
     (λ e. (omega arith, omega (arith, matched-le rs s 1 (omega arith))))
 
-pub size-one : (s : List ℕ) → 0 < length s → 1 ≤ sizeOf (frontOf s)
+pub size-one : (s : List ℕ) → 0 < length s → 1 ≤ frontSize (frontOf s)
 unfolding frontOf Sized
 size-one s h = judged (rowOf table (getD s 0 0)) s h .0
 
-pub size-in : (s : List ℕ) → 0 < length s → sizeOf (frontOf s) ≤ length s
+pub size-in : (s : List ℕ) → 0 < length s → frontSize (frontOf s) ≤ length s
 unfolding frontOf Sized
 size-in s h = judged (rowOf table (getD s 0 0)) s h .1
 
@@ -61,17 +61,17 @@ enough (suc k) zero [] hk hm = refl
 enough (suc k) zero (b ∷ s) hk hm = absurd (omega arith)
 enough (suc k) (suc m) [] hk hm = refl
 enough (suc k) (suc m) (b ∷ s) hk hm =
-    let n = sizeOf (frontOf (b ∷ s)) in
+    let n = frontSize (frontOf (b ∷ s)) in
     let one = size-one (b ∷ s) (omega arith) in
     let e = length-drop n (b ∷ s) in
     ap (λ (l : List ℕ). pieceOf (frontOf (b ∷ s)) (b ∷ s) ++ l) (enough k m (drop n (b ∷ s)) (omega arith) (omega arith))
 
 -- the first piece, and the rest
-pub replaced-more : (s : List ℕ) → 0 < length s → replaced s ≡ pieceOf (frontOf s) s ++ replaced (drop (sizeOf (frontOf s)) s)
+pub replaced-more : (s : List ℕ) → 0 < length s → replaced s ≡ pieceOf (frontOf s) s ++ replaced (drop (frontSize (frontOf s)) s)
 unfolding replaced replacedBy
 replaced-more [] h = absurd (omega arith)
 replaced-more (b ∷ s) h =
-    let n = sizeOf (frontOf (b ∷ s)) in
+    let n = frontSize (frontOf (b ∷ s)) in
     let one = size-one (b ∷ s) (omega arith) in
     let e = length-drop n (b ∷ s) in
     ap (λ (l : List ℕ). pieceOf (frontOf (b ∷ s)) (b ∷ s) ++ l) (enough (length s) (length (drop n (b ∷ s))) (drop n (b ∷ s)) (omega arith) (omega arith))
@@ -110,7 +110,7 @@ pub completes-more : {old : List ℕ} {at : ℕ} (s : List ℕ) {now : List ℕ}
 completes-more s {now} {o} {i} {next} {a} {n} h g p new r q =
     let long = length-drop i s in
     let t : Fronted now o (drop i s) next a n = rw (rest-is s i) at p in
-    let k : drop (i + n) s ≡ drop (sizeOf (frontOf (drop i s))) (drop i s) = rw (← t .takes, drop-drop) in
+    let k : drop (i + n) s ≡ drop (frontSize (frontOf (drop i s))) (drop i s) = rw (← t .takes, drop-drop) in
     g new r (rw (replaced-more (drop i s) (omega arith)) (put-put (t .puts) (rw k at q)))
 
 -- a front moves on by a byte at least, and not past the end

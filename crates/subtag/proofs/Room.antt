@@ -12,7 +12,7 @@ use borrow.Author.Tests.{le-leb, lt-leb}
 use Rattle.laws.proofs.Lists.{rest-is}
 use Rattle.subtag.specs.declared.utf8.Front.{Front}
 use Rattle.subtag.specs.Utf8.{frontOf}
-use Rattle.subtag.specs.Subtag.{pieceOf, sizeOf, replaced}
+use Rattle.subtag.specs.Subtag.{pieceOf, frontSize, replaced}
 use Rattle.subtag.specs.Steps.{Measured}
 use Rattle.subtag.proofs.Laws.{size-one, size-in, well-in, replaced-more, replaced-none}
 
@@ -42,8 +42,8 @@ module _ (s : List ℕ) {i becomes taken : ℕ} (h : i < length s) (m : Measured
   long-more : length (replaced (drop i s)) ≡ becomes + length (replaced (drop (i + taken) s))
   long-more =
       let f = frontOf (drop i s) in
-      let d : drop (sizeOf f) (drop i s) ≡ drop (i + taken) s = rw (← here .takes, drop-drop) in
-      ap length (replaced-more (drop i s) left) ∙ length-append (pieceOf f (drop i s)) (replaced (drop (sizeOf f) (drop i s)))
+      let d : drop (frontSize f) (drop i s) ≡ drop (i + taken) s = rw (← here .takes, drop-drop) in
+      ap length (replaced-more (drop i s) left) ∙ length-append (pieceOf f (drop i s)) (replaced (drop (frontSize f) (drop i s)))
       ∙ rw (← here .long, d)
 
   pub room-less : (room : ℕ) → becomes ≤ room → leb (length (replaced (drop i s))) room ≡ leb (length (replaced (drop (i + taken) s))) (room - becomes)

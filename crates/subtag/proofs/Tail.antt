@@ -14,7 +14,7 @@ use Rattle.laws.proofs.Choice.{chosen}
 use Rattle.laws.proofs.Lists.{Each}
 use Rattle.subtag.specs.declared.utf8.Front.{Front}
 use Rattle.subtag.specs.Utf8.{table, rowOf, within, okAt, matched, judge, frontOf}
-use Rattle.subtag.specs.Subtag.{pieceOf, sizeOf, replaced, replacedBy, dropNuls, subtagOf}
+use Rattle.subtag.specs.Subtag.{pieceOf, frontSize, replaced, replacedBy, dropNuls, subtagOf}
 use Rattle.subtag.proofs.Laws.{size-one, size-in, replaced-more}
 use Rattle.subtag.proofs.Nuls.{nul-last}
 
@@ -84,7 +84,7 @@ front-nul : (l : List ℕ) → 0 < length l → frontOf (l ++ 0 ∷ []) ≡ fron
 unfolding frontOf
 front-nul l h = rw (List·getD-append l (0 ∷ []) 0 0 h) (judge-nul (rowOf table (getD l 0 0)) l (row-high table (getD l 0 0) table-high))
 
-piece-nul : (f : Front) (l : List ℕ) → sizeOf f ≤ length l → pieceOf f (l ++ 0 ∷ []) ≡ pieceOf f l
+piece-nul : (f : Front) (l : List ℕ) → frontSize f ≤ length l → pieceOf f (l ++ 0 ∷ []) ≡ pieceOf f l
 piece-nul (Front.WellFormed n) l h = take-append-le n l (0 ∷ []) h
 piece-nul (Front.IllFormed n) l h = refl
 
@@ -99,13 +99,13 @@ nul-by (suc k) [] h = alone
 nul-by (suc k) (b ∷ l) h =
     let s = b ∷ l in
     let p : 0 < length s = omega arith in
-    let n = sizeOf (frontOf s) in
+    let n = frontSize (frontOf s) in
     let least = size-one s p in
     let most = size-in s p in
     let e = length-drop n s in
     let q : 0 < length (s ++ 0 ∷ []) = omega (arith, length-append s (0 ∷ [])) in
     replaced-more (s ++ 0 ∷ []) q
-    ∙ ap (λ (f : Front). pieceOf f (s ++ 0 ∷ []) ++ replaced (drop (sizeOf f) (s ++ 0 ∷ []))) (front-nul s p)
+    ∙ ap (λ (f : Front). pieceOf f (s ++ 0 ∷ []) ++ replaced (drop (frontSize f) (s ++ 0 ∷ []))) (front-nul s p)
     ∙ ap (λ (x : List ℕ). x ++ replaced (drop n (s ++ 0 ∷ []))) (piece-nul (frontOf s) s most)
     ∙ ap (λ (x : List ℕ). pieceOf (frontOf s) s ++ replaced x) (drop-append-le n s (0 ∷ []) most)
     ∙ ap (λ (x : List ℕ). pieceOf (frontOf s) s ++ x) (nul-by k (drop n s) (omega arith))

@@ -51,7 +51,10 @@ module _ (p : ℕ → Bool) (s : List ℕ) (h : Bytes s) where
     version = field-below p s 6 h;
     config = field-below p s 7 h;
     dp = field-below p s 8 h;
-    sized = record { word = field-below p s 2 h; script = field-wide p s 9; variant = field-wide p s 10; numbering = field-wide p s 13 };
+    locale = field-below p s 2 h;
+    script = field-wide p s 9;
+    variant = field-wide p s 10;
+    numbering = field-wide p s 13;
   }
 
 -- no text of what the plain reading gives is longer, nor of what a reader of an age gives

@@ -1,6 +1,6 @@
 -- The table's order, and places in fields. Assumes nothing.
-use Prim.Native.Nat.{ℕ, _≤_, _<_, max}
-use mathlib.Core.Path.{_≡_, sym, _∙_}
+use Prim.Native.Nat.{ℕ, _≤_, _<_}
+use mathlib.Core.Path.{_≡_}
 use mathlib.Core.Bool.{true}
 use lib.Dec.{leb}
 use borrow.Author.Tests.{leb-true, ltb-true}
@@ -8,8 +8,6 @@ use Rattle.laws.specs.Below.{eachBelow}
 use Rattle.laws.proofs.Tests.{and-both}
 use Rattle.laws.proofs.Below.{in-row, each-at}
 use Rattle.record.specs.Table.{startOf, endOf}
-use Rattle.reading.specs.Reading.{reads}
-use Rattle.reading.proofs.Limits.{reads-is}
 use Rattle.writing.specs.Writing.{inField}
 
 -- a field ends before a later one starts
@@ -22,7 +20,3 @@ pub in-says : (k f : ℕ) → inField k f ≡ true → (startOf f ≤ k) × (k <
 in-says k f e =
     let p = and-both e in
     (leb-true (startOf f) k (p .0), ltb-true k (endOf f) (p .1))
-
--- a field that is read ends within T
-pub end-within : (size f : ℕ) → f < 15 → reads size f ≡ true → endOf f ≤ max size 16
-end-within size f h e = leb-true (endOf f) (max size 16) (sym (reads-is f size h) ∙ e)

@@ -1,5 +1,5 @@
 -- 01, "Numbers given back": what the writer writes and when it refuses, and which bytes it gives back as they were. Assumes nothing.
-use Prim.Native.Nat.{ℕ, zero, suc, _/_, _%_, _<_, _≤_, max}
+use Prim.Native.Nat.{ℕ, zero, suc, _/_, _%_, _<_, _≤_}
 use mathlib.Core.Path.{_≡_}
 use mathlib.Core.List.{List, [], _∷_}
 use mathlib.Core.Bool.{Bool, true, false, cond, _||_, _&&_}
@@ -10,7 +10,7 @@ use Rattle.laws.specs.Below.{someBelow, eachBelow}
 use Rattle.answers.specs.declared.Refusal.{Refusal}
 use Rattle.buffer.specs.Written.{Outcome, written, refused}
 use Rattle.record.specs.declared.ResTableConfig.{ResTableConfig}
-use Rattle.record.specs.Table.{startOf, endOf, widthOf, allZero, bit}
+use Rattle.record.specs.Table.{startOf, endOf, widthOf, allZero, bit, bytesTaken}
 use Rattle.reading.specs.Reading.{reads, sizeOf, taken}
 
 -- the four little-endian bytes of a word
@@ -43,7 +43,7 @@ bytesOf r f = getD (fieldsOf r) f []
 
 -- T: how many bytes a record takes
 abbrev pub span : ResTableConfig → ℕ
-span r = max (r .size) 16
+span r = bytesTaken (r .size)
 
 -- T zeros, and over them, each from its start on, those of the first n fields that are read at the record's size
 unfoldable pub laid : ResTableConfig → ℕ → List ℕ
@@ -51,8 +51,8 @@ laid r zero = replicate (span r) 0
 laid r (suc f) = cond (reads (r .size) f) (paste (laid r f) (startOf f) (bytesOf r f) (widthOf f)) (laid r f)
 
 -- the T bytes of a record: size and every field that is read at that size, and zero elsewhere
-abbrev pub shown : ResTableConfig → List ℕ
-shown r = laid r 15
+abbrev pub bytesWritten : ResTableConfig → List ℕ
+bytesWritten r = laid r 15
 
 -- field f is read at the record's size, or it is zero
 abbrev pub keeps : ResTableConfig → ℕ → Bool
@@ -64,14 +64,7 @@ tidy r = eachBelow 15 (keeps r)
 
 -- writing a record: 6 when a field that isn't read at its size isn't zero, then 5; else its T bytes
 unfoldable pub writeOf : ResTableConfig → List ℕ → Outcome
-writeOf r old = cond (tidy r) (written (shown r) old) (refused Refusal.UnreadField old)
-
--- the arrays of a record have the lengths of their types
-pub record Shaped (r : ResTableConfig) : Type 0 where
-  pub script : length (r .«locale_script») ≡ 4
-  pub variant : length (r .«locale_variant») ≡ 8
-  pub numbering : length (r .«locale_numbering_system») ≡ 8
-  pub padding : length (r .«end_padding») ≡ 3
+writeOf r old = cond (tidy r) (written (bytesWritten r) old) (refused Refusal.UnreadField old)
 
 -- place k lies in field f
 abbrev pub inField : ℕ → ℕ → Bool
