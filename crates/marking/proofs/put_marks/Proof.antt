@@ -26,11 +26,11 @@ loop-again c =
     let turn = mark .before .before in
     let start = turn .before .before .before in
     let a = start .args in
-    let l = turn .loop in
-    (
-      omega arith, omega arith,
+    let l = turn .loop in (
+      omega arith,
+      omega arith,
       mark-next (a .age) (a .t) (now (a .bytes)) (l .i) _ (omega arith) (letter .letter .ensures ∙ ap letterOf (mark .mark-of .ensures)) (l .inv .2)
-      (put .put-byte .ensures),
+          (put .put-byte .ensures),
     )
 
 returns : tie.Need-returns Inv-loop μ-loop
