@@ -27,6 +27,20 @@ pass {x = x} {y = y} e f = rw (eq-eqb x y e) f
 pub differ : {x y : ℕ} (o : Bool) → (x ≡ y → ⊥) → false ≡ (eqb x y && o)
 differ {x = x} {y = y} o d = rw (ne-eqb x y d)
 
+-- the same of numbers that go by other names
+module _ {x y u v : ℕ} (p : x ≡ u) (q : y ≡ v) where
+  pub skip-as : {r o : Ordering} → x ≡ y → r ≡ o → r ≡ andThen (numberOrder u v) o
+  skip-as e f = rw (sym p, sym q) (skip e f)
+
+  pub stop-as : {r : Ordering} (o : Ordering) → (x ≡ y → ⊥) → r ≡ numberOrder x y → r ≡ andThen (numberOrder u v) o
+  stop-as o d f = rw (sym p, sym q) (stop o d f)
+
+  pub pass-as : {r o : Bool} → x ≡ y → r ≡ o → r ≡ (eqb u v && o)
+  pass-as e f = rw (sym p, sym q) (pass e f)
+
+  pub differ-as : (o : Bool) → (x ≡ y → ⊥) → false ≡ (eqb u v && o)
+  differ-as o d = rw (sym p, sym q) (differ o d)
+
 -- the same of arrays, by their packed numbers
 module _ {k : ℕ} {u v : List ℕ} {x y : ℕ} (p : Packed k u x) (q : Packed k v y) where
   front-order : (s t : List ℕ) → andThen (numberOrder x y) (lex s t) ≡ lex (u ++ s) (v ++ t)

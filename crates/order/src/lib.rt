@@ -92,6 +92,13 @@ fn variant(c: ResTableConfig) -> u64
     eight(s)
 }
 
+// `locale_script_was_computed` as one number: no before yes.
+fn computed(c: ResTableConfig) -> u64
+    ensures { λ r. ⌜ r ≡ bit (c .«locale_script_was_computed») ⌝ }
+{
+    c.locale_script_was_computed as u64
+}
+
 // `locale_numbering_system` as one number, whose order is its bytes'.
 fn numbering_system(c: ResTableConfig) -> u64
     ensures { λ r. ⌜ Packed 8 (c .«locale_numbering_system») r ⌝ }
@@ -125,8 +132,8 @@ fn later_order(a: ResTableConfig, b: ResTableConfig) -> Ordering
     if a.screen_config_2 != b.screen_config_2 {
         return word_apart(a.screen_config_2, b.screen_config_2);
     }
-    let x = a.locale_script_was_computed as u64;
-    let y = b.locale_script_was_computed as u64;
+    let x = computed(a);
+    let y = computed(b);
     if x != y {
         return apart(x, y);
     }
@@ -160,8 +167,8 @@ fn later_agree(a: ResTableConfig, b: ResTableConfig) -> bool
     if a.screen_config_2 != b.screen_config_2 {
         return false;
     }
-    let x = a.locale_script_was_computed as u64;
-    let y = b.locale_script_was_computed as u64;
+    let x = computed(a);
+    let y = computed(b);
     if x != y {
         return false;
     }

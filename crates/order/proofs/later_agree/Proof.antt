@@ -1,6 +1,5 @@
 -- `later_agree`: the first field from `locale_script` on that differs decides. Assumes nothing.
-use Rattle.order.proofs.Chain.{pass, differ, pass-bytes, differ-bytes, last-agree}
-use borrow.Author.Needs.{needs}
+use Rattle.order.proofs.Chain.{pass, differ, pass-as, differ-as, pass-bytes, differ-bytes, last-agree}
 use Rattle.order.proofs.later_agree.Statement.{statement}
 use Rattle.order.proofs.later_agree.Tie as tie
 
@@ -21,14 +20,14 @@ later-agree-spec =
     pass-bytes (p1 .before .before .script .ensures) (p1 .before .script2 .ensures) _ _ (p1 .if1 .left)
     (pass-bytes (p2 .before .before .variant .ensures) (p2 .before .variant2 .ensures) _ _ (p2 .if2 .left)
     (differ _ (c .if3 .taken))))
-    (λ c. search needs) (λ c. search needs)
+    (λ c κs. tt) (λ c κs. tt)
     (λ c.
     let p3 = c .before .before .before in
     let p2 = p3 .before .before .before in
     let p1 = p2 .before .before .before in
     pass-bytes (p1 .before .before .script .ensures) (p1 .before .script2 .ensures) _ _ (p1 .if1 .left)
     (pass-bytes (p2 .before .before .variant .ensures) (p2 .before .variant2 .ensures) _ _ (p2 .if2 .left) (pass (p3 .if3 .left)
-    (differ _ (c .if4 .taken)))))
+    (differ-as (c .before .before .computed .ensures) (c .before .computed2 .ensures) _ (c .if4 .taken)))))
     (λ c κs. tt) (λ c κs. tt)
     (λ c.
     let p4 = c .before .before .before in
@@ -37,7 +36,7 @@ later-agree-spec =
     let p1 = p2 .before .before .before in
     pass-bytes (p1 .before .before .script .ensures) (p1 .before .script2 .ensures) _ _ (p1 .if1 .left)
     (pass-bytes (p2 .before .before .variant .ensures) (p2 .before .variant2 .ensures) _ _ (p2 .if2 .left) (pass (p3 .if3 .left)
-    (pass (p4 .if4 .left)
+    (pass-as (p4 .before .before .computed .ensures) (p4 .before .computed2 .ensures) (p4 .if4 .left)
     (differ-bytes (c .before .before .numbering-system .ensures) (c .before .numbering-system2 .ensures) _ _ (c .if5 .taken))))))
     (λ c κs. tt) (λ c κs. tt)
     (λ c.
@@ -48,6 +47,6 @@ later-agree-spec =
     let p1 = p2 .before .before .before in
     pass-bytes (p1 .before .before .script .ensures) (p1 .before .script2 .ensures) _ _ (p1 .if1 .left)
     (pass-bytes (p2 .before .before .variant .ensures) (p2 .before .variant2 .ensures) _ _ (p2 .if2 .left) (pass (p3 .if3 .left)
-    (pass (p4 .if4 .left)
+    (pass-as (p4 .before .before .computed .ensures) (p4 .before .computed2 .ensures) (p4 .if4 .left)
     (pass-bytes (p5 .before .before .numbering-system .ensures) (p5 .before .numbering-system2 .ensures) _ _ (p5 .if5 .left)
     (last-agree (c .before .padding .ensures) (c .padding2 .ensures))))))))
