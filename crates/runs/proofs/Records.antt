@@ -49,6 +49,11 @@ module _ (s : List ℕ) (p : ℕ) where
   pub front-whole : taken (drop p s) ≤ length (drop p s) → frontAt s p ≡ Front.Takes (taken (drop p s))
   front-whole h = let e = took-is (drop p s) (taken (drop p s)) refl h in front-took (not-end _ e) (taken (drop p s)) e
 
+-- past the bytes nothing stands
+pub front-past : (s : List ℕ) (p : ℕ) → length s < p → frontAt s p ≡ Front.Stops (Stop.Refused Refusal.FewerThan16)
+front-past s p h =
+    front-refused s p (λ e. omega arith) Refusal.FewerThan16 (sym (whole-short (drop p s) _ _ (omega (arith, length-drop p s))))
+
 -- two fronts are told apart by what they take
 bytes-of : Front → ℕ
 bytes-of (Front.Takes n) = suc n
