@@ -74,7 +74,7 @@ aged-small a s old bytes =
 pub marks-small : (a : ℕ) (s old : List ℕ) → Small (marksOutcome a s old .tells)
 marks-small a s old =
     by-age Tells _ _ refusal-small a
-    (by-whole Tells _ _ refusal-small s (λ whole. written-small (marksOf a s) old (omega (arith, marks-length a s))))
+    (by-whole Tells _ _ refusal-small s (λ whole. written-small (marksOf a s) old (omega (arith, marks-length a (taken s) s))))
 
 pub ordering-most : (o : Ordering) → orderingTells o < 4294967296
 ordering-most Ordering.Less = lit< tt
