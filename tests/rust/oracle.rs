@@ -1,5 +1,6 @@
 //! The Rust side of the comparison: makes questions, answers them by 000, and compares the port's answers with its own.
 mod kinds;
+mod listed;
 mod listing;
 mod payloads;
 mod questions;
@@ -38,7 +39,7 @@ fn main() -> ExitCode {
         ["fixed", program] => answered_by(program).and_then(|table| write(&frames(&questions::fixed(table)))),
         ["answer", program] => answer(program),
         ["compare", program, questions, expected, got] => compare(program, questions, expected, got),
-        ["listing"] => input().and_then(|bytes| write(listing::listing(&bytes, 64).as_bytes())),
+        ["listing"] => input().and_then(|bytes| write(&listed(&bytes)?)),
         ["runs", folder, count, seed] => runs(folder, count, seed),
         ["ask", name, seed, limit] => scale::ask(name, seed, limit),
         ["check", name, seed] => scale::check(name, seed),
@@ -72,9 +73,14 @@ fn runs(folder: &str, count: &str, seed: &str) -> Result<(), String> {
     let file = |name: String, bytes: &[u8]| std::fs::write(format!("{folder}/{name}"), bytes).map_err(|e| format!("{name}: {e}"));
     for (at, run) in runs.iter().enumerate() {
         file(format!("{at}.run"), run)?;
-        file(format!("{at}.lines"), listing::listing(run, 64).as_bytes())?;
+        file(format!("{at}.lines"), &listed(run)?)?;
     }
     Ok(())
+}
+
+/// The listing of some bytes by 01's rules at age 64.
+fn listed(bytes: &[u8]) -> Result<Vec<u8>, String> {
+    listed::listing(bytes, 64).map_err(|e| e.to_string())
 }
 
 /// All of standard input.

@@ -1,4 +1,5 @@
 //! What the questions on records are asked about: makers of payloads, and what the full run and the fixed list take of them.
+pub use crate::listed::ENDS;
 use crate::questions::Random;
 use std::ops::Range;
 
@@ -27,9 +28,6 @@ pub const PAIRS: &[Maker] = &[
     unrelated,
     halves_damaged,
 ];
-
-/// Where each of the fifteen fields ends; it starts where the one before it ends.
-pub const ENDS: [usize; 15] = [4, 8, 12, 16, 20, 24, 28, 32, 36, 40, 48, 52, 53, 61, 64];
 
 /// Sizes that records have in files, and two more, 28 and 48.
 const USUAL: [usize; 7] = [28, 32, 36, 48, 52, 56, 64];

@@ -1,4 +1,5 @@
 //! The questions on records: reading, the accessors, a new density, equality and order, and what the writer gives back.
+use crate::listed::taken;
 use crate::payloads::{all_of, few_of, parts, ACCESSED, DENSITIES, ENDS, PAIRS, RECORDS};
 use crate::questions::Asked;
 use crate::runs::{HELD_BACK, MARKS_AT, READ_AT, SOUGHT, STEP_AT, TEXT_AT};
@@ -67,13 +68,6 @@ const REFUSED: u8 = 0xff;
 /// An answer, or the refusal.
 pub fn told(answer: Option<Vec<u8>>) -> Vec<u8> {
     answer.unwrap_or(vec![REFUSED])
-}
-
-/// The record at the front of some bytes, and how many of them the Rust took for it.
-pub fn taken(bytes: &[u8]) -> Option<(ResTableConfig, usize)> {
-    let mut rest = bytes;
-    let record = reach::parse(&mut rest)?;
-    Some((record, bytes.len() - rest.len()))
 }
 
 /// The answer on a record that was taken: 0, the amount in eight bytes, the fields.

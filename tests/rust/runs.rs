@@ -1,6 +1,6 @@
 //! The questions on a place of a run: the step there, the run reader, text, marks, and whether a record is held back. 000 has
 //! neither runs nor ages: the answers are 01's rules over what it parses and says.
-use crate::listing::held_back;
+use crate::listed::held_back;
 use crate::payloads::{all_of, declare, declared, few_of, many, one, record, Maker, ENDS, RECORDS};
 use crate::questions::{Asked, Random};
 use crate::records::fields;

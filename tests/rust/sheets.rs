@@ -3,7 +3,8 @@
 use crate::kinds::kind_of;
 use crate::payloads::{all_of, few_of, RECORDS};
 use crate::questions::Asked;
-use crate::records::{taken, told};
+use crate::listed::taken;
+use crate::records::told;
 use crate::spellings::{LONGEST, PLACES, SPELLED};
 use crate::subject::{reach, ResTableConfig};
 

@@ -1,5 +1,5 @@
 //! What the questions on texts are asked about: every value that a text says, and bytes that may or may not be UTF-8.
-use crate::listing::MOST;
+use crate::listed::MOST;
 use crate::payloads::{declare, declared, many, one, usual, Maker};
 use crate::questions::Random;
 use std::ops::Range;

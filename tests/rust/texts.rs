@@ -1,7 +1,8 @@
 //! The questions on texts: of a record, of its locale, of a language, of a region and of a subtag.
 use crate::payloads::{all_of, few_of, RECORDS};
 use crate::questions::Asked;
-use crate::records::{taken, told};
+use crate::listed::taken;
+use crate::records::told;
 use crate::spellings::{LONGEST, PAIRS, PLACES, SPELLED, SUBTAGS, TOLD_PAIRS};
 use crate::subject::reach;
 

@@ -1,7 +1,6 @@
 // The flags that say in which ways configurations differ, and two more that an entry has.
 ghost use mathlib.Core.Path.{_≡_};
 ghost use lib.ListN.{getD};
-ghost use Rattle.flags.specs.Flags as flag;
 ghost use Rattle.flags.specs.Flags.{flags};
 
 // A set of flags, a bit for each.
@@ -97,27 +96,3 @@ impl ResTableConfigFlags {
         }
     }
 }
-
-// Holds each constant to the flag that 000 has under its name, for whoever reads the constants: it does nothing.
-fn named()
-    ensures { λ _. do ⌜ (← ⟦ResTableConfigFlags::CONFIG_MCC.0⟧ .entry) ≡ flag.«CONFIG_MCC» ⌝ }
-    ensures { λ _. do ⌜ (← ⟦ResTableConfigFlags::CONFIG_MNC.0⟧ .entry) ≡ flag.«CONFIG_MNC» ⌝ }
-    ensures { λ _. do ⌜ (← ⟦ResTableConfigFlags::CONFIG_LOCALE.0⟧ .entry) ≡ flag.«CONFIG_LOCALE» ⌝ }
-    ensures { λ _. do ⌜ (← ⟦ResTableConfigFlags::CONFIG_TOUCHSCREEN.0⟧ .entry) ≡ flag.«CONFIG_TOUCHSCREEN» ⌝ }
-    ensures { λ _. do ⌜ (← ⟦ResTableConfigFlags::CONFIG_KEYBOARD.0⟧ .entry) ≡ flag.«CONFIG_KEYBOARD» ⌝ }
-    ensures { λ _. do ⌜ (← ⟦ResTableConfigFlags::CONFIG_KEYBOARD_HIDDEN.0⟧ .entry) ≡ flag.«CONFIG_KEYBOARD_HIDDEN» ⌝ }
-    ensures { λ _. do ⌜ (← ⟦ResTableConfigFlags::CONFIG_NAVIGATION.0⟧ .entry) ≡ flag.«CONFIG_NAVIGATION» ⌝ }
-    ensures { λ _. do ⌜ (← ⟦ResTableConfigFlags::CONFIG_ORIENTATION.0⟧ .entry) ≡ flag.«CONFIG_ORIENTATION» ⌝ }
-    ensures { λ _. do ⌜ (← ⟦ResTableConfigFlags::CONFIG_DENSITY.0⟧ .entry) ≡ flag.«CONFIG_DENSITY» ⌝ }
-    ensures { λ _. do ⌜ (← ⟦ResTableConfigFlags::CONFIG_SCREEN_SIZE.0⟧ .entry) ≡ flag.«CONFIG_SCREEN_SIZE» ⌝ }
-    ensures { λ _. do ⌜ (← ⟦ResTableConfigFlags::CONFIG_SMALLEST_SCREEN_SIZE.0⟧ .entry) ≡ flag.«CONFIG_SMALLEST_SCREEN_SIZE» ⌝ }
-    ensures { λ _. do ⌜ (← ⟦ResTableConfigFlags::CONFIG_VERSION.0⟧ .entry) ≡ flag.«CONFIG_VERSION» ⌝ }
-    ensures { λ _. do ⌜ (← ⟦ResTableConfigFlags::CONFIG_SCREEN_LAYOUT.0⟧ .entry) ≡ flag.«CONFIG_SCREEN_LAYOUT» ⌝ }
-    ensures { λ _. do ⌜ (← ⟦ResTableConfigFlags::CONFIG_UI_MODE.0⟧ .entry) ≡ flag.«CONFIG_UI_MODE» ⌝ }
-    ensures { λ _. do ⌜ (← ⟦ResTableConfigFlags::CONFIG_LAYOUTDIR.0⟧ .entry) ≡ flag.«CONFIG_LAYOUTDIR» ⌝ }
-    ensures { λ _. do ⌜ (← ⟦ResTableConfigFlags::CONFIG_SCREEN_ROUND.0⟧ .entry) ≡ flag.«CONFIG_SCREEN_ROUND» ⌝ }
-    ensures { λ _. do ⌜ (← ⟦ResTableConfigFlags::CONFIG_COLOR_MODE.0⟧ .entry) ≡ flag.«CONFIG_COLOR_MODE» ⌝ }
-    ensures { λ _. do ⌜ (← ⟦ResTableConfigFlags::CONFIG_GRAMMATICAL_GENDER.0⟧ .entry) ≡ flag.«CONFIG_GRAMMATICAL_GENDER» ⌝ }
-    ensures { λ _. do ⌜ (← ⟦ResTableConfigFlags::SPEC_PUBLIC.0⟧ .entry) ≡ flag.«SPEC_PUBLIC» ⌝ }
-    ensures { λ _. do ⌜ (← ⟦ResTableConfigFlags::SPEC_STAGED_API.0⟧ .entry) ≡ flag.«SPEC_STAGED_API» ⌝ }
-{}

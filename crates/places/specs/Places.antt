@@ -13,7 +13,7 @@ use Rattle.words.specs.Words.{wordsOf}
 use Rattle.record.specs.declared.ResTableConfig.{ResTableConfig}
 use Rattle.record.specs.Accessors.{mccMncOf, orientationTouchscreenDensityOf, keyboardNavigationInputFlagsOf, grammaticalInflectionOf, screenWidthHeightOf, sdkMinorVersionOf, screenLayoutUiSmallestWidthOf, screenWidthHeightDpOf, screenLayout2ColorModeOf}
 use Rattle.locale.specs.Locale.{localeSaid, localeWords}
-use Rattle.places.specs.Said.{kindSaid}
+use Rattle.said_kinds.specs.Said.{kindSaid}
 use Rattle.places.specs.Say.{Place, sayAll}
 
 -- a kind: said as the tests of `as_string` have it

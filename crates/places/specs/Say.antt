@@ -2,7 +2,8 @@
 use Prim.Native.Nat.{ℕ}
 use mathlib.Core.Path.{_≡_}
 use mathlib.Core.List.{List, [], _∷_, _++_}
-use mathlib.Core.Bool.{Bool, true, false}
+use mathlib.Core.Bool.{Bool, true, false, cond}
+use lib.Dec.{ltb}
 use lib.ListN.{length}
 use Rattle.buffer.specs.Ascii.{ascii}
 use Rattle.buffer.specs.Put.{Put}
@@ -15,6 +16,10 @@ Place = Bool × List ℕ
 unfoldable pub dashAfter : List ℕ → List ℕ
 dashAfter [] = []
 dashAfter (b ∷ t) = ascii "-"
+
+-- the same dash by the place in a buffer where the words are to stand: the first has none before it
+abbrev pub dashAt : ℕ → List ℕ
+dashAt at = cond (ltb 0 at) (ascii "-") []
 
 -- the text after a place: as it was where the place isn't said
 unfoldable pub say : List ℕ → Bool → List ℕ → List ℕ

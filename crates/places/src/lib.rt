@@ -1,10 +1,24 @@
-// The twenty-four places of a record, put one after the other.
-//
-// `put_text` is machinery: it stops at the buffer's end and refuses nothing.
-mod groups;
-mod kind_places;
-mod put;
-mod said;
+// What the places of a text share: the dash before a place, and a kind's words behind it. Both are machinery: they stop at the buffer's
+// end and refuse nothing.
+use buffer::put_byte;
+use kinds::Kind;
+use words::put_words;
+ghost use mathlib.Core.List.{_++_};
+ghost use Rattle.buffer.specs.Put.{Put};
+ghost use Rattle.words.specs.Words.{wordsOf};
+ghost use Rattle.places.specs.Say.{dashAt};
 
-pub use groups::put_text;
-pub use said::kind_said;
+// The dash that stands before a place, unless the place is the first.
+pub fn dash(out: &mut [u8], at: usize) -> usize
+    ensures { λ r. ⌜ Put (now (out .entry)) at (dashAt at) (now (out .exit)) r ⌝ }
+{
+    if 0 < at { put_byte(out, at, b'-') } else { at }
+}
+
+// A kind that is said: the dash, and its words.
+pub fn say_kind(out: &mut [u8], at: usize, kind: Kind) -> usize
+    ensures { λ r. ⌜ Put (now (out .entry)) at (dashAt at ++ wordsOf kind) (now (out .exit)) r ⌝ }
+{
+    let a = dash(out, at);
+    put_words(out, a, kind)
+}

@@ -2,7 +2,7 @@
 use crate::ENDS;
 ghost use mathlib.Core.Path.{_≡_};
 ghost use lib.ListN.{getD};
-ghost use Rattle.record.specs.Ages.{ages, defaultAge, isAge};
+ghost use Rattle.record.specs.Ages.{ages, isAge};
 
 // An age: one of the twelve constants, or a number that is refused.
 pub struct Age(pub u32);
@@ -84,20 +84,3 @@ impl Age {
         }
     }
 }
-
-// Holds each constant to the number in its name, and the default to its definition, for whoever reads the constants: it does nothing.
-fn named()
-    ensures { λ _. do ⌜ (← ⟦Age::A16.0⟧ .entry) ≡ 16 ⌝ }
-    ensures { λ _. do ⌜ (← ⟦Age::A20.0⟧ .entry) ≡ 20 ⌝ }
-    ensures { λ _. do ⌜ (← ⟦Age::A24.0⟧ .entry) ≡ 24 ⌝ }
-    ensures { λ _. do ⌜ (← ⟦Age::A28.0⟧ .entry) ≡ 28 ⌝ }
-    ensures { λ _. do ⌜ (← ⟦Age::A32.0⟧ .entry) ≡ 32 ⌝ }
-    ensures { λ _. do ⌜ (← ⟦Age::A36.0⟧ .entry) ≡ 36 ⌝ }
-    ensures { λ _. do ⌜ (← ⟦Age::A40.0⟧ .entry) ≡ 40 ⌝ }
-    ensures { λ _. do ⌜ (← ⟦Age::A48.0⟧ .entry) ≡ 48 ⌝ }
-    ensures { λ _. do ⌜ (← ⟦Age::A52.0⟧ .entry) ≡ 52 ⌝ }
-    ensures { λ _. do ⌜ (← ⟦Age::A53.0⟧ .entry) ≡ 53 ⌝ }
-    ensures { λ _. do ⌜ (← ⟦Age::A61.0⟧ .entry) ≡ 61 ⌝ }
-    ensures { λ _. do ⌜ (← ⟦Age::A64.0⟧ .entry) ≡ 64 ⌝ }
-    ensures { λ _. do ⌜ (← ⟦Age::DEFAULT.0⟧ .entry) ≡ defaultAge ⌝ }
-{}

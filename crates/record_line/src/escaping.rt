@@ -1,7 +1,7 @@
 // A record's text as a line of the listing shows it. Machinery, as all that is called `put`: it refuses nothing.
 use buffer::put;
 use buffer::put_byte;
-use places::put_text;
+use places_all::put_text;
 use record::ResTableConfig;
 ghost use mathlib.Core.Path.{_≡_};
 ghost use Rattle.buffer.specs.Put.{Put};

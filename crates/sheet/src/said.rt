@@ -16,14 +16,14 @@ use kinds::Touchscreen;
 use kinds::UIMode;
 use kinds::UIModeNight;
 use kinds::WideColorGamut;
-use places::kind_said;
 use record::ResTableConfig;
+use said_kinds::kind_said;
 ghost use mathlib.Core.Path.{_≡_};
 ghost use Prim.Native.Nat.{_≤_, _<_};
 ghost use lib.Dec.{eqb};
 ghost use lib.ListN.{take, drop};
 ghost use mathlib.Core.Bool.{not};
-ghost use Rattle.places.specs.Said.{kindSaid};
+ghost use Rattle.said_kinds.specs.Said.{kindSaid};
 ghost use Rattle.record.specs.Table.{bit};
 ghost use Rattle.sheet.specs.Sheet.{bits, saidOf};
 

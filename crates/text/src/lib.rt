@@ -4,7 +4,7 @@ use answers::Taken;
 use answers::Written;
 use buffer::write;
 use marking::late_bytes;
-use places::put_text;
+use places_all::put_text;
 use reading::amount;
 use reading::parse;
 use reading::parse_aged;

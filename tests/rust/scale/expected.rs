@@ -1,8 +1,7 @@
 //! What each call is to answer: by 000 as far as it has an answer, and by 01's rules.
 use super::{Call, Question};
-use crate::listing::{age_line, held_back, marks, record_line, stop_line, stop_number, MOST};
-use crate::payloads::ENDS;
-use crate::records::{fields, taken, written};
+use crate::listed::{held_back, marks, put_age_line, put_record_line, put_stop_line, stop_number, taken, ENDS, MOST};
+use crate::records::{fields, written};
 use crate::subject::ResTableConfig;
 
 /// What a call is to write, whatever it is lent, or the number of a refusal before 5; nothing where it doesn't write.
@@ -20,6 +19,9 @@ const LENT_MOST: usize = 1 << 17;
 
 /// The number of the cursor behind the last line.
 const END: u64 = u64::MAX;
+
+/// Why a line can't fail.
+const TAKES: &str = "a Vec takes every byte";
 
 /// A number and an amount as one answer.
 fn packed(number: u32, amount: u64) -> u64 {
@@ -64,25 +66,34 @@ pub fn wanted(call: Call, number: u32, index: u64, place: u64, bytes: &[u8]) -> 
         }
         Call::Marks => {
             let (age, (record, amount)) = (age(number)?, whole(bytes)?);
-            Ok(marks(&bytes[..amount], record.size as usize, age).into_bytes())
+            Ok(marks(&bytes[..amount], record.size as usize, age).to_vec())
         }
-        Call::FirstLine => listed(bytes).and(age(number)).map(|age| age_line(age).into_bytes()),
-        Call::Line | Call::Next => {
-            listed(bytes).and(age(number)).map(|age| line(bytes, age, index, place).0.into_bytes())
-        }
+        Call::FirstLine => listed(bytes).and(age(number)).map(first_line),
+        Call::Line | Call::Next => listed(bytes).and(age(number)).map(|age| line(bytes, age, index, place).0),
         Call::Write => rewritten(bytes, number),
         Call::Take | Call::Order | Call::Walk | Call::Records => Ok(vec![]),
     }
 }
 
+/// The first line at an age.
+fn first_line(age: usize) -> Vec<u8> {
+    let mut line = vec![];
+    put_age_line(&mut line, age).expect(TAKES);
+    line
+}
+
 /// The line at a cursor, and the cursor behind it. A record's index is at most its place, so there is no line where it isn't.
-fn line(bytes: &[u8], age: usize, index: u64, place: u64) -> (String, u64) {
+fn line(bytes: &[u8], age: usize, index: u64, place: u64) -> (Vec<u8>, u64) {
+    let mut line = vec![];
     if place < index {
-        return (String::new(), END);
+        return (line, END);
     }
-    match record_line(bytes, age, index as usize, place as usize) {
-        Some((line, amount)) => (line, cursor(index + 1, place + amount as u64)),
-        None => (stop_line(bytes, place as usize), END),
+    match put_record_line(&mut line, bytes, age, index as usize, place as usize).expect(TAKES) {
+        Some(amount) => (line, cursor(index + 1, place + amount as u64)),
+        None => {
+            put_stop_line(&mut line, bytes, place as usize).expect(TAKES);
+            (line, END)
+        }
     }
 }
 

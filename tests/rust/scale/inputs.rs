@@ -1,13 +1,12 @@
 //! Questions that are made: a sort of input, one of its calls, and a cursor, an age, a size and a room that go with it.
 use super::expected::{wanted, Wanted};
 use super::{Call, Question, Source};
-use crate::listing::MOST;
+use crate::listed::{taken, MOST};
 use crate::payloads::{
     all_of, around_ends, broken, damaged, every_size, many, not_there, one, parts, record, tails, usual, whole, Maker,
     ENDS, PAIRS,
 };
 use crate::questions::Random;
-use crate::records::taken;
 use crate::spellings::{real, PLACES, SPELLED};
 
 /// How many bytes are lent beside what is to be written.

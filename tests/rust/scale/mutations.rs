@@ -1,7 +1,7 @@
 //! Questions on mutations of records as files have them: each that is mutated goes to every call.
 use super::inputs::question;
 use super::{Call, Question, Source, CALLS};
-use crate::listing::MOST;
+use crate::listed::MOST;
 use crate::payloads::{declare, one, ENDS};
 use crate::questions::Random;
 use crate::spellings::real;

@@ -1,0 +1,24 @@
+-- The first places, and two groups behind them. Assumes nothing.
+use lib.ListN.{take}
+use Rattle.buffer.proofs.Putting.{put-same}
+use Rattle.places.proofs.Laws.{says-both, said-more}
+use Rattle.places.specs.Places.{placesOf, textOf}
+use Rattle.places_all.proofs.put_text.Statement.{statement}
+use Rattle.places_all.proofs.put_text.Tie as tie
+
+returns : tie.Need-returns
+unfolding placesOf textOf
+returns c =
+    let from-18 = c .before .before in
+    let b = from-18 .before .before in
+    let from-13 = b .before .before in
+    let a = from-13 .before .before in
+    let first = a .before .before in
+    let r = first .before .before .before .args .r in
+    said-more (take 13 (placesOf r)) (first .put-first .ensures) (says-both (from-13 .places-from-13 .ensures) (from-18 .places-from-18 .ensures))
+
+pub put-text-spec : {M : Type 1} → statement M
+put-text-spec =
+    tie.close
+    (tie.spec
+    (λ c κs. tt) (λ c κs. tt) (λ c κs. tt) (λ c. put-same (returns c)) returns)

@@ -1,0 +1,58 @@
+// The last eleven places of a record, a few to a function, and all twenty-four.
+//
+// `put_text` is machinery: it stops at the buffer's end and refuses nothing.
+mod kind_places;
+mod put;
+
+use kind_places::density_place;
+use kind_places::keyboard_place;
+use kind_places::keys_hidden_place;
+use kind_places::nav_hidden_place;
+use kind_places::navigation_place;
+use kind_places::orientation_place;
+use kind_places::touchscreen_place;
+use kind_places::ui_mode_night_place;
+use kind_places::ui_mode_place;
+use places_first::put_first;
+use put::pixel_place;
+use put::version_place;
+use record::ResTableConfig;
+ghost use lib.ListN.{take, drop};
+ghost use Rattle.buffer.specs.Put.{Put};
+ghost use Rattle.places.specs.Say.{Says};
+ghost use Rattle.places.specs.Places.{placesOf, textOf};
+
+// Places 13 to 17: orientation, UI type, night, density and touch.
+fn places_from_13(out: &mut [u8], at: usize, r: ResTableConfig) -> usize
+    ensures { λ n. ⌜ Says (now (out .entry)) at (take 5 (drop 13 (placesOf r))) (now (out .exit)) n ⌝ }
+{
+    let screen = r.get_orientation_touchscreen_density();
+    let layout = r.get_screen_layout_ui_smallest_width();
+    let a = orientation_place(out, at, screen.orientation);
+    let b = ui_mode_place(out, a, layout.ui_mode);
+    let c = ui_mode_night_place(out, b, layout.ui_mode);
+    let d = density_place(out, c, screen.density);
+    touchscreen_place(out, d, screen.touchscreen)
+}
+
+// Places 18 to 23: keys and navigation, pixel size and version.
+fn places_from_18(out: &mut [u8], at: usize, r: ResTableConfig) -> usize
+    ensures { λ n. ⌜ Says (now (out .entry)) at (drop 18 (placesOf r)) (now (out .exit)) n ⌝ }
+{
+    let input = r.get_keyboard_navigation_input_flags();
+    let a = keys_hidden_place(out, at, input.input_flags);
+    let b = keyboard_place(out, a, input.keyboard);
+    let c = nav_hidden_place(out, b, input.input_flags);
+    let d = navigation_place(out, c, input.navigation);
+    let e = pixel_place(out, d, r);
+    version_place(out, e, r)
+}
+
+// Puts the text of a record at the front of out.
+pub fn put_text(out: &mut [u8], r: ResTableConfig) -> usize
+    ensures { λ n. ⌜ Put (now (out .entry)) 0 (textOf r) (now (out .exit)) n ⌝ }
+{
+    let a = put_first(out, r);
+    let b = places_from_13(out, a, r);
+    places_from_18(out, b, r)
+}

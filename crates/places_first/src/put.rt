@@ -1,0 +1,43 @@
+// One place that is no kind: the dash that stands before it, and its words, where it is said.
+use buffer::put_between;
+use buffer::put_label;
+use locale::put_locale;
+use places::dash;
+use record::ResTableConfig;
+ghost use mathlib.Core.List.{_∷_, []};
+ghost use Rattle.locale.specs.Locale.{localeSaid, localeWords};
+ghost use Rattle.places.specs.Say.{Says};
+ghost use Rattle.places.specs.Places.{labelPlace, dpPlace};
+
+// A number behind a word.
+pub(crate) fn label_place(out: &mut [u8], at: usize, front: &[u8], n: u16) -> usize
+    ensures { λ r. ⌜ Says (now (out .entry)) at (labelPlace (now (front .entry)) n ∷ []) (now (out .exit)) r ⌝ }
+{
+    if n == 0 {
+        return at;
+    }
+    let a = dash(out, at);
+    put_label(out, a, front, n as u64)
+}
+
+// A number of dp behind a word.
+pub(crate) fn dp_place(out: &mut [u8], at: usize, front: &[u8], n: u16) -> usize
+    ensures { λ r. ⌜ Says (now (out .entry)) at (dpPlace (now (front .entry)) n ∷ []) (now (out .exit)) r ⌝ }
+{
+    if n == 0 {
+        return at;
+    }
+    let a = dash(out, at);
+    put_between(out, a, front, n as u64, b"dp")
+}
+
+// The locale.
+pub(crate) fn locale_place(out: &mut [u8], at: usize, r: ResTableConfig) -> usize
+    ensures { λ n. ⌜ Says (now (out .entry)) at ((localeSaid r, localeWords r) ∷ []) (now (out .exit)) n ⌝ }
+{
+    if r.locale % 256 == 0 {
+        return at;
+    }
+    let a = dash(out, at);
+    put_locale(out, a, r)
+}
