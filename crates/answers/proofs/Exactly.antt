@@ -7,6 +7,7 @@ use mathlib.Core.Logic.{_↔_, _⊎_, inl, inr}
 use native.Mathlib.Omega.{arith}
 use lib.Dec.{T, eqb}
 use borrow.Author.Tests.{eqb-false}
+use Rattle.laws.proofs.Choice.{cond-not}
 use Rattle.answers.specs.declared.Refusal.{Refusal}
 use Rattle.answers.specs.declared.Told.{Told}
 use Rattle.answers.specs.Numbers.{numberOf}
@@ -32,14 +33,10 @@ pub one-more : {A : Type 0} {row : List Condition} {refuse : Refusal → A} {giv
     → Goes (c ∷ row) refuse give (cond (c .holds) (refuse (c .why)) o)
 one-more c g = record { by = rw (g .by) }
 
-turned : {A : Type 0} (test : Bool) (x : A) {y z : A} → y ≡ z → cond test y x ≡ cond (not test) x z
-turned true x e = e
-turned false x e = refl
-
 -- the same of a condition that holds where a test fails
 pub one-unless : {A : Type 0} {row : List Condition} {refuse : Refusal → A} {give o : A} (test : Bool) (why : Refusal) → Goes row refuse give o
     → Goes (record { holds = not test; why = why } ∷ row) refuse give (cond test o (refuse why))
-one-unless {refuse = refuse} test why g = record { by = turned test (refuse why) (g .by) }
+one-unless {refuse = refuse} test why g = record { by = rw (g .by) (sym (cond-not test (refuse why) _)) }
 
 module _ {A : Type 0} (refuse : Refusal → A) (give : A) where
   first-by : (why : Refusal) (b : Bool) (r : Refusal) (rest : A) {F : Type 0} → (F → rest ≡ refuse why)

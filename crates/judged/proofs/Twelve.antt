@@ -13,13 +13,13 @@ use Rattle.locale.specs.Locale.{legacyWords, newWords, localeWords}
 use Rattle.places.specs.Say.{say, dashAfter, sayAll}
 use Rattle.places.specs.Places.{placesOf, textOf}
 use Rattle.sheet.specs.Sheet.{saidOf, sheetOf}
-use Rattle.judged.specs.Judged.{Example, table}
+use Rattle.judged.specs.Judged.{Example, twelve}
 
 -- they are 01's, from 1 to 12
-pub numbered : map (λ (e : Example). e .number) table ≡ 1 ∷ 2 ∷ 3 ∷ 4 ∷ 5 ∷ 6 ∷ 7 ∷ 8 ∷ 9 ∷ 10 ∷ 11 ∷ 12 ∷ []
+pub numbered : map (λ (e : Example). e .number) twelve ≡ 1 ∷ 2 ∷ 3 ∷ 4 ∷ 5 ∷ 6 ∷ 7 ∷ 8 ∷ 9 ∷ 10 ∷ 11 ∷ 12 ∷ []
 numbered = refl
 
 -- what the definitions give is what 01 asks, in every row
-pub judged : map (λ (e : Example). e .given) table ≡ map (λ (e : Example). e .asked) table
+pub judged : map (λ (e : Example). e .given) twelve ≡ map (λ (e : Example). e .asked) twelve
 unfolding reads fieldBy recordBy plain aged ifWhole ifAge isAge heldBack written textOf placesOf sayAll say dashAfter localeWords newWords legacyWords unpacked subtagOf dropNuls keep replaced replacedBy frontOf okAt decimal digits saidOf sheetOf
 judged = refl

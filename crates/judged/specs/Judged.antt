@@ -1,4 +1,4 @@
--- 01, "Judged examples": the twelve as one table, over the definitions that the public contracts cite. Assumes nothing.
+-- 01, "Judged examples": the twelve as one twelve, over the definitions that the public contracts cite. Assumes nothing.
 use Prim.Native.Nat.{ℕ, _^_}
 use Prim.Native.String.{String}
 use mathlib.Core.List.{List, [], _∷_, _++_}
@@ -18,17 +18,17 @@ zeros n = replicate n 0
 abbrev pub told : Told → List ℕ
 told t = t .number ∷ t .amount ∷ []
 
--- what a call that writes shows: its number, and the bytes that it wrote
-abbrev pub shown : Outcome → List ℕ
-shown o = o .tells .number ∷ take (o .tells .amount) (o .leaves)
+-- what a call that writes tells: its number, and the bytes that it wrote
+abbrev pub toldBytes : Outcome → List ℕ
+toldBytes o = o .tells .number ∷ take (o .tells .amount) (o .leaves)
 
 -- the plain text of some bytes, in a lent buffer of 344
 abbrev pub text : List ℕ → List ℕ
-text s = shown (plainText s (zeros 344))
+text s = toldBytes (plainText s (zeros 344))
 
 -- their text for a reader of age a
 abbrev pub textAt : ℕ → List ℕ → List ℕ
-textAt a s = shown (agedText a s (zeros 344))
+textAt a s = toldBytes (agedText a s (zeros 344))
 
 -- a record of size 64: language and country, script, computed byte
 abbrev pub localeRecord : List ℕ → List ℕ → ℕ → List ℕ
@@ -38,9 +38,9 @@ localeRecord locale script computed = 64 ∷ (zeros 7 ++ locale ++ zeros 24 ++ s
 abbrev pub screenRecord : ℕ → ℕ → List ℕ
 screenRecord orientation mode = 32 ∷ (zeros 11 ++ (orientation ∷ zeros 16) ++ (mode ∷ zeros 2))
 
--- the ill-formed bytes' replacement
-abbrev pub replacement : List ℕ
-replacement = 0xEF ∷ 0xBF ∷ 0xBD ∷ []
+-- EF BF BD, as 01 writes it; on purpose apart from the definition of subtags, which the examples are to hold to it
+abbrev pub efBfBd : List ℕ
+efBfBd = 0xEF ∷ 0xBF ∷ 0xBD ∷ []
 
 -- a judged example: its number, what 01 says of it, what the definitions give, and what 01 asks
 pub record Example : Type 0 where
@@ -50,8 +50,8 @@ pub record Example : Type 0 where
   pub asked : List (List ℕ)
 
 -- the twelve
-abbrev pub table : List Example
-table =
+abbrev pub twelve : List Example
+twelve =
     record {
       number = 1;
       says = "15 zero bytes: 1. Sixteen: taken, text empty.";
@@ -77,7 +77,7 @@ table =
       number = 4;
       says = "Language FF FF, no country: EF BF BD three times.";
       given = text (localeRecord (0xFF ∷ 0xFF ∷ 0 ∷ 0 ∷ []) (zeros 4) 0) ∷ [];
-      asked = (0 ∷ (replacement ++ replacement ++ replacement)) ∷ [];
+      asked = (0 ∷ (efBfBd ++ efBfBd ++ efBfBd)) ∷ [];
     }
     ∷ record {
       number = 5;
@@ -95,7 +95,7 @@ table =
       number = 7;
       says = "\"en\", script E2 82 00 41, size 40: b+en+, then EF BF BD 00 41.";
       given = text (40 ∷ (zeros 7 ++ ascii "en" ++ zeros 26 ++ (0xE2 ∷ 0x82 ∷ 0x00 ∷ 0x41 ∷ []))) ∷ [];
-      asked = (0 ∷ (ascii "b+en+" ++ replacement ++ (0x00 ∷ 0x41 ∷ []))) ∷ [];
+      asked = (0 ∷ (ascii "b+en+" ++ efBfBd ++ (0x00 ∷ 0x41 ∷ []))) ∷ [];
     }
     ∷ record {
       number = 8;

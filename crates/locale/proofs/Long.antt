@@ -1,6 +1,5 @@
 -- How long the words of a locale are at most: 84 bytes. Assumes nothing.
 use Prim.Native.Nat.{ℕ, _+_, _/_, _%_, _≤_, _<_}
-use mathlib.Core.Path.{_≡_}
 use mathlib.Core.Bool.{Bool, true, false, _||_}
 use mathlib.Core.List.{List}
 use native.Mathlib.Omega.{arith}
@@ -8,30 +7,25 @@ use lib.ListN.{length, length-append}
 use mir.Val.{Val}
 use denote.Laws.{Is}
 use borrow.Author.Needs.{needs}
-use Rattle.answers.proofs.Says.{chosen}
+use Rattle.laws.proofs.Choice.{chosen}
 use Rattle.buffer.specs.Ascii.{ascii}
 use Rattle.subtag.specs.Subtag.{subtagOf}
 use Rattle.subtag.proofs.Long.{subtag-long}
 use Rattle.language.proofs.Long.{language-long, region-long}
 use Rattle.record.specs.declared.ResTableConfig.{ResTableConfig}
 use Rattle.record.proofs.ResTableConfig as config
+use Rattle.record.proofs.Shapes.{shaped}
 use Rattle.locale.specs.Locale.{region, begins, hasRegion, scriptProvided, behind, legacyWords, newWords, localeWords, localeSaid, localeText}
 
 behind-long : (there : Bool) (sign w : List ℕ) → length (behind there sign w) ≤ length sign + length w
 behind-long true sign w = omega (arith, length-append sign w)
 behind-long false sign w = omega arith
 
--- what the types say of a record: its word and its arrays
-pub record Sized (r : ResTableConfig) : Type 0 where
-  pub word : r .locale < 4294967296
-  pub script : length (r .«locale_script») ≤ 4
-  pub variant : length (r .«locale_variant») ≤ 8
-  pub numbering : length (r .«locale_numbering_system») ≤ 8
-
-pub locale-long : (r : ResTableConfig) → Sized r → length (localeWords r) ≤ 84
+-- of a record whose word and arrays are as long as their types have them, at the most
+pub locale-long : (r : ResTableConfig) → r .locale < 4294967296 → length (r .«locale_script») ≤ 4 → length (r .«locale_variant») ≤ 8 → length (r .«locale_numbering_system») ≤ 8
+    → length (localeWords r) ≤ 84
 unfolding localeWords newWords legacyWords
-locale-long r s =
-    let w = s .word in
+locale-long r w t1 t2 t3 =
     let p0 = language-long (r .locale % 256) (r .locale / 256 % 256) in
     let q = region-long (r .locale / 65536 % 256) (r .locale / 16777216) (omega arith) in
     let p1 = behind-long (scriptProvided r) (ascii "+") (subtagOf (r .«locale_script»)) in
@@ -42,20 +36,12 @@ locale-long r s =
     let p4 = behind-long (begins (r .«locale_numbering_system»)) (ascii "+u+nu+") (subtagOf (r .«locale_numbering_system»)) in
     let q4 = subtag-long (r .«locale_numbering_system») in
     let p5 = behind-long (hasRegion r) (ascii "-r") (region r) in
-    let t1 = s .script in
-    let t2 = s .variant in
-    let t3 = s .numbering in
     chosen (λ (w : List ℕ). length w ≤ 84) (scriptProvided r || begins (r .«locale_variant») || begins (r .«locale_numbering_system»))
     (simp length-append (omega arith)) (simp length-append (omega arith))
 
--- also where they are not said
-pub text-long : (r : ResTableConfig) → Sized r → length (localeText r) ≤ 84
-text-long r s = chosen (λ (w : List ℕ). length w ≤ 84) (localeSaid r) (locale-long r s) (omega arith)
-
--- owning a record tells as much
-pub sized : (r : ResTableConfig) (vs : List Val) → Is config.the-row r vs → Sized r
-sized r vs h =
-    let a : length (r .«locale_script») ≡ 4 = search needs in
-    let b : length (r .«locale_variant») ≡ 8 = search needs in
-    let d : length (r .«locale_numbering_system») ≡ 8 = search needs in
-    record { word = search needs; script = omega arith; variant = omega arith; numbering = omega arith }
+-- of every record that the type has, also where they are not said
+pub text-long : (r : ResTableConfig) (vs : List Val) → Is config.the-row r vs → length (localeText r) ≤ 84
+text-long r vs h =
+    let s = shaped r vs h in
+    let long = locale-long r (search needs) (omega (arith, s .script)) (omega (arith, s .variant)) (omega (arith, s .numbering)) in
+    chosen (λ (w : List ℕ). length w ≤ 84) (localeSaid r) long (omega arith)

@@ -5,6 +5,7 @@ use mathlib.Core.Bool.{Bool, true, false}
 use mathlib.Core.List.{List, [], _∷_, _++_}
 use native.Mathlib.Omega.{arith}
 use lib.ListN.{length}
+use Rattle.laws.proofs.Tests.{clash}
 use Rattle.record.specs.Table.{bit}
 use Rattle.order.specs.Order.{key, orderOf, equalOf}
 use Rattle.record.specs.declared.ResTableConfig.{ResTableConfig}
@@ -22,22 +23,10 @@ pub size-equal : (a b : ResTableConfig) (m n : ℕ) → equalOf (withSize a m) (
 unfolding equalOf
 size-equal a b m n = refl
 
-clash : {A : Type 0} → _≡_ {A = ℕ} 0 1 → A
-clash z = absurd (none z)
-  where
-    none : _≡_ {A = ℕ} 0 1 → ⊥
-    none e = omega arith
-
 parted : (u v s t : List ℕ) → length u ≡ length v → u ++ s ≡ v ++ t → (u ≡ v) × (s ≡ t)
 parted [] [] s t h e = (refl, e)
-parted [] (c ∷ v) s t h e = absurd (none h)
-  where
-    none : zero ≡ suc (length v) → ⊥
-    none g = omega arith
-parted (b ∷ u) [] s t h e = absurd (none h)
-  where
-    none : suc (length u) ≡ zero → ⊥
-    none g = omega arith
+parted [] (c ∷ v) s t h e = absurd (omega arith)
+parted (b ∷ u) [] s t h e = absurd (omega arith)
 parted (b ∷ u) (c ∷ v) s t h e =
     let g : length u ≡ length v = omega arith in
     let k : u ++ s ≡ v ++ t = cc in

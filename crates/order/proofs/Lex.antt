@@ -51,14 +51,8 @@ then-equal Ordering.Greater = refl
 -- lists of one length: the fronts first, and then the rest
 pub joined : (a b x y : List ℕ) → length a ≡ length b → lex (a ++ x) (b ++ y) ≡ andThen (lex a b) (lex x y)
 joined [] [] x y h = refl
-joined [] (j ∷ b) x y h = absurd (none h)
-  where
-    none : zero ≡ suc (length b) → ⊥
-    none e = omega arith
-joined (i ∷ a) [] x y h = absurd (none h)
-  where
-    none : suc (length a) ≡ zero → ⊥
-    none e = omega arith
+joined [] (j ∷ b) x y h = absurd (omega arith)
+joined (i ∷ a) [] x y h = absurd (omega arith)
 joined (i ∷ a) (j ∷ b) x y h =
     let g : length a ≡ length b = omega arith in
     ap (andThen (numberOrder i j)) (joined a b x y g) ∙ sym (assoc (numberOrder i j) (lex a b) (lex x y))

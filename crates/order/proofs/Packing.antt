@@ -1,33 +1,22 @@
 -- Bytes packed into one number: how they are packed, and that the numbers are ordered as the bytes are. Assumes nothing.
-use Prim.Native.Nat.{ℕ, zero, suc, _+_, _*_, _<_}
-use mathlib.Core.Path.{_≡_, refl, sym, ap, _∙_}
+use Prim.Native.Nat.{ℕ, suc, _+_, _*_, _<_}
+use mathlib.Core.Path.{_≡_, sym, ap, _∙_}
 use mathlib.Core.List.{List, [], _∷_}
 use native.Mathlib.Omega.{arith}
-use lib.ListN.{length, getD}
+use lib.ListN.{length}
+use Rattle.laws.proofs.Lists.{listed, elements, Each}
+use Rattle.record.specs.Table.{Bytes}
+use Rattle.record.proofs.Bytes.{each-byte}
 use Rattle.order.specs.Order.{numberOrder, andThen, lex}
-use Rattle.order.specs.Packed.{beAfter, AllBytes, Packed}
+use Rattle.order.specs.Packed.{beAfter, Packed}
 use Rattle.order.specs.declared.Ordering.{Ordering}
 use Rattle.order.proofs.Lex.{less-is, greater-is, equal-is, by-order, assoc, then-equal}
 
--- n elements of a list, from place i on
-abbrev pub listed : List ℕ → ℕ → ℕ → List ℕ
-listed s i zero = []
-listed s i (suc n) = getD s i 0 ∷ listed s (suc i) n
-
-listed-tail : (b : ℕ) (s : List ℕ) (i n : ℕ) → listed (b ∷ s) (suc i) n ≡ listed s i n
-listed-tail b s i zero = refl
-listed-tail b s i (suc n) = ap (λ (l : List ℕ). getD s i 0 ∷ l) (listed-tail b s (suc i) n)
-
--- a list is its elements
-pub listed-all : (s : List ℕ) → listed s 0 (length s) ≡ s
-listed-all [] = refl
-listed-all (b ∷ s) = ap (λ (l : List ℕ). b ∷ l) (listed-tail b s 0 (length s) ∙ listed-all s)
-
 -- k bytes are packed where their number is that of their elements
-pub packed : (k : ℕ) (s : List ℕ) (n : ℕ) → length s ≡ k → n ≡ beAfter 0 (listed s 0 k) → AllBytes (listed s 0 k) → Packed k s n
+pub packed : (k : ℕ) (s : List ℕ) (n : ℕ) → length s ≡ k → n ≡ beAfter 0 (listed s 0 0 k) → Each (λ b. b < 256) (listed s 0 0 k) → Packed k s n
 packed k s n h e b =
-    let same : listed s 0 k ≡ s = rw (sym h) (listed-all s) in
-    record { number = rw same at e; long = h; bytes = rw same at b }
+    let same = elements k s h in
+    record { number = rw same at e; long = h; bytes = each-byte s (rw same at b) }
 
 -- one byte more
 byte-more : (m n b c : ℕ) → b < 256 → c < 256 → numberOrder (m * 256 + b) (n * 256 + c) ≡ andThen (numberOrder m n) (numberOrder b c)
@@ -43,21 +32,15 @@ byte-more m n b c h g =
     (λ l. sym (greater-is x y (omega arith))))
     (λ l. sym (greater-is x y (omega arith)))
 
-after-order : (m n : ℕ) (u v : List ℕ) → length u ≡ length v → AllBytes u → AllBytes v
+after-order : (m n : ℕ) (u v : List ℕ) → length u ≡ length v → Bytes u → Bytes v
     → numberOrder (beAfter m u) (beAfter n v) ≡ andThen (numberOrder m n) (lex u v)
 after-order m n [] [] h f g = sym (then-equal (numberOrder m n))
-after-order m n [] (c ∷ v) h f g = absurd (none h)
-  where
-    none : zero ≡ suc (length v) → ⊥
-    none e = omega arith
-after-order m n (b ∷ u) [] h f g = absurd (none h)
-  where
-    none : suc (length u) ≡ zero → ⊥
-    none e = omega arith
+after-order m n [] (c ∷ v) h f g = absurd (omega arith)
+after-order m n (b ∷ u) [] h f g = absurd (omega arith)
 after-order m n (b ∷ u) (c ∷ v) h f g =
     let k : length u ≡ length v = omega arith in
-    after-order (m * 256 + b) (n * 256 + c) u v k (f .1) (g .1)
-    ∙ (ap (λ (o : Ordering). andThen o (lex u v)) (byte-more m n b c (f .0) (g .0))
+    after-order (m * 256 + b) (n * 256 + c) u v k (λ i. f (suc i)) (λ i. g (suc i))
+    ∙ (ap (λ (o : Ordering). andThen o (lex u v)) (byte-more m n b c (f 0) (g 0))
     ∙ assoc (numberOrder m n) (numberOrder b c) (lex u v))
 
 -- the order of two packed numbers is that of their bytes

@@ -6,17 +6,12 @@ use mathlib.Core.Bool.{true}
 use mathlib.Core.List.{List, [], _∷_}
 use mathlib.Core.Logic.{_⊎_, inl, inr}
 use native.Mathlib.Omega.{arith}
+use Rattle.laws.proofs.Tests.{clash}
 use Rattle.order.specs.Order.{numberOrder, andThen, lex, key, orderOf, equalOf}
 use Rattle.order.specs.Total.{flip, Total, Transitive, Antisymmetric, EqualWhenYes}
 use Rattle.record.specs.declared.ResTableConfig.{ResTableConfig}
 use Rattle.order.specs.declared.Ordering.{Ordering}
 use Rattle.order.proofs.Lex.{less-is, greater-is, equal-is, by-order, isEqual, agree-order}
-
-clash : {A : Type 0} → _≡_ {A = ℕ} 0 1 → A
-clash z = absurd (none z)
-  where
-    none : _≡_ {A = ℕ} 0 1 → ⊥
-    none e = omega arith
 
 number-flip : (x y : ℕ) → numberOrder y x ≡ flip (numberOrder x y)
 number-flip x y =

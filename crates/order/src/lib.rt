@@ -47,7 +47,7 @@ fn word_apart(x: u32, y: u32) -> Ordering
 }
 
 // Four bytes as one number, big-endian.
-fn word(a: u8, b: u8, c: u8, d: u8) -> u64
+fn big_endian(a: u8, b: u8, c: u8, d: u8) -> u64
     ensures { λ r. ⌜ (r ≡ ((a * 256 + b) * 256 + c) * 256 + d) × ((a < 256) × ((b < 256) × ((c < 256) × (d < 256)))) ⌝ }
 {
     ((a as u64 * 256 + b as u64) * 256 + c as u64) * 256 + d as u64
@@ -57,30 +57,23 @@ fn word(a: u8, b: u8, c: u8, d: u8) -> u64
 fn three(s: [u8; 3]) -> u64
     ensures { λ r. ⌜ Packed 3 s r ⌝ }
 {
-    word(0, s[0], s[1], s[2])
+    big_endian(0, s[0], s[1], s[2])
 }
 
 // An array of four bytes as one number, whose order is theirs.
 fn four(s: [u8; 4]) -> u64
     ensures { λ r. ⌜ Packed 4 s r ⌝ }
 {
-    word(s[0], s[1], s[2], s[3])
+    big_endian(s[0], s[1], s[2], s[3])
 }
 
 // An array of eight bytes as one number, whose order is theirs.
 fn eight(s: [u8; 8]) -> u64
     ensures { λ r. ⌜ Packed 8 s r ⌝ }
 {
-    let high = word(s[0], s[1], s[2], s[3]);
-    let low = word(s[4], s[5], s[6], s[7]);
+    let high = big_endian(s[0], s[1], s[2], s[3]);
+    let low = big_endian(s[4], s[5], s[6], s[7]);
     high * 4294967296 + low
-}
-
-// A yes counts 1.
-fn bit_of(b: bool) -> u64
-    ensures { λ r. ⌜ r ≡ bit b ⌝ }
-{
-    if b { 1 } else { 0 }
 }
 
 // `locale_script` as one number, whose order is its bytes'.
@@ -97,6 +90,13 @@ fn variant(c: ResTableConfig) -> u64
 {
     let s = c.locale_variant;
     eight(s)
+}
+
+// `locale_script_was_computed` as one number: no before yes.
+fn computed(c: ResTableConfig) -> u64
+    ensures { λ r. ⌜ r ≡ bit (c .«locale_script_was_computed») ⌝ }
+{
+    c.locale_script_was_computed as u64
 }
 
 // `locale_numbering_system` as one number, whose order is its bytes'.
@@ -132,8 +132,8 @@ fn later_order(a: ResTableConfig, b: ResTableConfig) -> Ordering
     if a.screen_config_2 != b.screen_config_2 {
         return word_apart(a.screen_config_2, b.screen_config_2);
     }
-    let x = bit_of(a.locale_script_was_computed);
-    let y = bit_of(b.locale_script_was_computed);
+    let x = computed(a);
+    let y = computed(b);
     if x != y {
         return apart(x, y);
     }
@@ -167,8 +167,8 @@ fn later_agree(a: ResTableConfig, b: ResTableConfig) -> bool
     if a.screen_config_2 != b.screen_config_2 {
         return false;
     }
-    let x = bit_of(a.locale_script_was_computed);
-    let y = bit_of(b.locale_script_was_computed);
+    let x = computed(a);
+    let y = computed(b);
     if x != y {
         return false;
     }

@@ -9,7 +9,7 @@ use lib.ListN.{length, getD, replicate}
 use borrow.Author.Tests.{le-leb, lt-leb}
 use Rattle.record.specs.Table.{part, le, allZero, startOf, endOf, widthOf}
 use Rattle.reading.specs.Reading.{fieldBy, recordBy}
-use Rattle.reading.proofs.Parts.{listed, row}
+use Rattle.laws.proofs.Lists.{listed, row}
 use Rattle.reading.proofs.Records.{same}
 
 -- a field of n bytes that ends within l is its bytes, and one that doesn't is n zeros

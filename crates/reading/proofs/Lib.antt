@@ -1,8 +1,8 @@
 pub mod Rows
-pub mod Parts
 pub mod Records
 pub mod FieldBytes
 pub mod Limits
+pub mod Shapes
 pub mod Whole
 pub mod OneOutcome
 pub mod Exactly

@@ -6,39 +6,43 @@ use mathlib.Core.Bool.{Bool, true, false, cond, _&&_, _||_}
 use mathlib.Core.List.{List}
 use native.Mathlib.Omega.{arith}
 use native.Mathlib.Decide.{decLe}
-use lib.Dec.{T, leb, ltb, leb→le, ltb→lt}
+use lib.Dec.{leb, ltb}
 use lib.ListN.{length}
-use borrow.Author.Tests.{le-leb, lt-leb}
-use Rattle.record.specs.Table.{startOf, endOf}
+use borrow.Author.Tests.{le-leb, lt-leb, leb-true, ltb-true}
+use Rattle.laws.proofs.Below.{in-row}
+use Rattle.record.specs.Table.{startOf, endOf, bytesTaken}
 use Rattle.reading.specs.Reading.{reads, recordBy, plain, aged, sizeOf, taken, readTo}
-use Rattle.reading.proofs.Rows.{in-row}
 use Rattle.reading.proofs.FieldBytes.{record-by}
 
 -- the first four fields end within 16, and the others past it
-first-four : (f : ℕ) → f < 15 → T (cond (ltb f 4) (leb (endOf f) 16) (ltb 16 (endOf f)))
-first-four = in-row (λ f. cond (ltb f 4) (leb (endOf f) 16) (ltb 16 (endOf f))) 15 tt
+first-four : (f : ℕ) → f < 15 → cond (ltb f 4) (leb (endOf f) 16) (ltb 16 (endOf f)) ≡ true
+first-four = in-row 15 (λ f. cond (ltb f 4) (leb (endOf f) 16) (ltb 16 (endOf f))) tt
 
 -- every field has a byte
 pub start-end : (f : ℕ) → f < 15 → startOf f < endOf f
-start-end f h = ltb→lt (startOf f) (endOf f) (in-row (λ g. ltb (startOf g) (endOf g)) 15 tt f h)
+start-end f h = ltb-true (startOf f) (endOf f) (in-row 15 (λ g. ltb (startOf g) (endOf g)) tt f h)
 
 -- no field ends past 64
 pub end-most : (f : ℕ) → f < 15 → endOf f ≤ 64
-end-most f h = leb→le (endOf f) 64 (in-row (λ g. leb (endOf g) 64) 15 tt f h)
+end-most f h = leb-true (endOf f) 64 (in-row 15 (λ g. leb (endOf g) 64) tt f h)
 
-rule : (e size : ℕ) (always : Bool) → T (cond always (leb e 16) (ltb 16 e)) → always || leb e size ≡ leb e (max size 16)
-rule e size true t = let h = leb→le e 16 t in sym (le-leb e (max size 16) (omega arith))
+rule : (e size : ℕ) (always : Bool) → cond always (leb e 16) (ltb 16 e) ≡ true → always || leb e size ≡ leb e (max size 16)
+rule e size true t = let h = leb-true e 16 t in sym (le-leb e (max size 16) (omega arith))
 rule e size false t =
-    let l = ltb→lt 16 e t in
+    let l = ltb-true 16 e t in
     elim (decLe e size) [
       | yes h ↦ le-leb e size h ∙ sym (le-leb e (max size 16) (omega arith))
       | no h ↦ lt-leb e size (omega arith) ∙ sym (lt-leb e (max size 16) (omega arith))
     ]
 
 -- a field is read exactly when it ends within T
-pub reads-is : (f size : ℕ) → f < 15 → reads size f ≡ leb (endOf f) (max size 16)
+pub reads-is : (f size : ℕ) → f < 15 → reads size f ≡ leb (endOf f) (bytesTaken size)
 unfolding reads
 reads-is f size h = rule (endOf f) size (ltb f 4) (first-four f h)
+
+-- a field that is read ends within T
+pub end-within : (size f : ℕ) → f < 15 → reads size f ≡ true → endOf f ≤ bytesTaken size
+end-within size f h e = leb-true (endOf f) (bytesTaken size) (sym (reads-is f size h) ∙ e)
 
 both : (e t a : ℕ) → leb e a && leb e t ≡ leb e (min t a)
 both e t a =

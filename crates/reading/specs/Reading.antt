@@ -1,5 +1,5 @@
 -- 01, "The record" and "Ages, marks, runs": what parsing gives, plain and at an age. Assumes nothing.
-use Prim.Native.Nat.{ℕ, max, min}
+use Prim.Native.Nat.{ℕ, min}
 use mathlib.Core.List.{List}
 use mathlib.Core.Bool.{Bool, not, cond, _&&_, _||_}
 use lib.Dec.{leb, ltb}
@@ -10,7 +10,7 @@ use Rattle.answers.specs.Tells.{success, refusal, takenTells}
 use Rattle.record.specs.declared.ResTableConfig.{ResTableConfig}
 use Rattle.record.specs.Ages.{isAge}
 use Rattle.record.specs.Blank.{blankRecord}
-use Rattle.record.specs.Table.{startOf, endOf, widthOf, part, le, allZero}
+use Rattle.record.specs.Table.{startOf, endOf, widthOf, part, le, allZero, bytesTaken}
 use Rattle.reading.specs.declared.Parsed.{Parsed}
 
 -- the first four fields are always read; a later field is read exactly when its end is at most size
@@ -50,9 +50,9 @@ recordBy p s =
 abbrev pub sizeOf : List ℕ → ℕ
 sizeOf s = le (part s 0 4)
 
--- T: how many bytes the record takes
+-- T: how many bytes the record at the front of s takes
 abbrev pub taken : List ℕ → ℕ
-taken s = max (sizeOf s) 16
+taken s = bytesTaken (sizeOf s)
 
 -- the plain reading
 unfoldable pub plain : List ℕ → ResTableConfig

@@ -1,5 +1,5 @@
--- 01, "The record": the field table, and what a list of bytes says. Assumes nothing.
-use Prim.Native.Nat.{ℕ, _+_, _*_, _-_, _<_}
+-- 01, "The record": the field table, how many bytes a record takes, and what a list of bytes says. Assumes nothing.
+use Prim.Native.Nat.{ℕ, _+_, _*_, _-_, _<_, max}
 use mathlib.Core.List.{List, [], _∷_}
 use mathlib.Core.Bool.{Bool, true, false, _&&_}
 use lib.ListN.{getD, take, drop}
@@ -42,6 +42,10 @@ le (b ∷ bs) = b + 256 * le bs
 abbrev pub allZero : List ℕ → Bool
 allZero [] = true
 allZero (b ∷ bs) = eqb b 0 && allZero bs
+
+-- a record of that size takes T = max(size, 16) bytes
+abbrev pub bytesTaken : ℕ → ℕ
+bytesTaken size = max size 16
 
 -- a yes as a number: 1
 abbrev pub bit : Bool → ℕ

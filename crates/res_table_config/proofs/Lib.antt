@@ -1,5 +1,4 @@
 pub mod Answers
-pub mod Bytes
 pub mod Exactly
 pub mod OneOutcome
 pub mod Packing

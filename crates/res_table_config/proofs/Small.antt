@@ -9,7 +9,7 @@ use lib.ListN.{length}
 use Rattle.answers.specs.declared.Refusal.{Refusal}
 use Rattle.answers.specs.Tells.{success, refusal}
 use Rattle.answers.proofs.OneToOne.{number-most}
-use Rattle.answers.proofs.Says.{chosen}
+use Rattle.laws.proofs.Choice.{chosen}
 use Rattle.buffer.specs.Written.{Outcome, written}
 use Rattle.order.specs.declared.Ordering.{Ordering}
 use Rattle.record.specs.Ages.{isAge}

@@ -7,53 +7,47 @@ use mathlib.Core.Option.{Option, none, some}
 use native.Mathlib.Omega.{arith}
 use lib.Dec.{ltb, eqb}
 use lib.ListN.{length, getD, take, drop, length-drop}
-use lib.Seq.{take-all, drop-drop}
+use lib.Seq.{drop-drop}
 use borrow.Author.Tests.{ltb-true, eqb-true}
+use Rattle.laws.proofs.Tests.{and-both}
+use Rattle.laws.proofs.Choice.{chosen-by}
+use Rattle.laws.proofs.Lists.{rest-is}
 use Rattle.buffer.specs.Put.{Put}
 use Rattle.buffer.proofs.Putting.{put-put, put-nil}
 use Rattle.subtag.specs.declared.utf8.Front.{Front}
 use Rattle.subtag.specs.Utf8.{table, rowOf, within, okAt, matched, judge, frontOf}
-use Rattle.subtag.specs.Subtag.{replacement, pieceOf, sizeOf, replacedBy, replaced}
+use Rattle.subtag.specs.Subtag.{replacement, pieceOf, frontSize, replacedBy, replaced}
 use Rattle.subtag.specs.Steps.{Fronted}
-
--- a fact of a case, from what the test says
-by-test : {A : Type 0} (P : A → Type 0) (t : Bool) (x y : A) → (t ≡ true → P x) → (t ≡ false → P y) → P (cond t x y)
-by-test P true x y f g = f refl
-by-test P false x y f g = g refl
-
-and-left : (t u : Bool) → (t && u) ≡ true → t ≡ true
-and-left true u e = refl
-and-left false u e = e
 
 -- a byte that is in a range is there
 ok-in : (s : List ℕ) (i lo hi : ℕ) → okAt s i lo hi ≡ true → i < length s
 unfolding okAt
-ok-in s i lo hi e = ltb-true i (length s) (and-left (ltb i (length s)) (within lo hi (getD s i 0)) e)
+ok-in s i lo hi e = ltb-true i (length s) (and-both e .0)
 
 matched-le : (rs : List (ℕ × ℕ)) (s : List ℕ) (i : ℕ) → i ≤ length s → i + matched rs s i ≤ length s
 matched-le [] s i h = omega arith
 matched-le (r ∷ rs) s i h =
-    by-test (λ (m : ℕ). i + m ≤ length s) (okAt s i (r .0) (r .1)) _ _
+    chosen-by (λ (m : ℕ). i + m ≤ length s) (okAt s i (r .0) (r .1))
     (λ e. omega (arith, matched-le rs s (suc i) (ok-in s i (r .0) (r .1) e)))
     (λ e. omega arith)
 
 -- a piece has a byte at least, and no more than there are
 Sized : List ℕ → Front → Type 0
-Sized s f = (1 ≤ sizeOf f) × (sizeOf f ≤ length s)
+Sized s f = (1 ≤ frontSize f) × (frontSize f ≤ length s)
 
 judged : (o : Option (List (ℕ × ℕ))) (s : List ℕ) → 0 < length s → Sized s (judge o s)
 unfolding Sized
 judged none s h = (omega arith, omega arith)
 judged (some rs) s h =
-    by-test (λ (f : Front). (1 ≤ sizeOf f) × (sizeOf f ≤ length s)) (eqb (matched rs s 1) (length rs)) _ _
+    chosen-by (λ (f : Front). (1 ≤ frontSize f) × (frontSize f ≤ length s)) (eqb (matched rs s 1) (length rs))
     (λ e. (omega arith, omega (arith, matched-le rs s 1 (omega arith), eqb-true (matched rs s 1) (length rs) e)))
     (λ e. (omega arith, omega (arith, matched-le rs s 1 (omega arith))))
 
-pub size-one : (s : List ℕ) → 0 < length s → 1 ≤ sizeOf (frontOf s)
+pub size-one : (s : List ℕ) → 0 < length s → 1 ≤ frontSize (frontOf s)
 unfolding frontOf Sized
 size-one s h = judged (rowOf table (getD s 0 0)) s h .0
 
-pub size-in : (s : List ℕ) → 0 < length s → sizeOf (frontOf s) ≤ length s
+pub size-in : (s : List ℕ) → 0 < length s → frontSize (frontOf s) ≤ length s
 unfolding frontOf Sized
 size-in s h = judged (rowOf table (getD s 0 0)) s h .1
 
@@ -67,17 +61,17 @@ enough (suc k) zero [] hk hm = refl
 enough (suc k) zero (b ∷ s) hk hm = absurd (omega arith)
 enough (suc k) (suc m) [] hk hm = refl
 enough (suc k) (suc m) (b ∷ s) hk hm =
-    let n = sizeOf (frontOf (b ∷ s)) in
+    let n = frontSize (frontOf (b ∷ s)) in
     let one = size-one (b ∷ s) (omega arith) in
     let e = length-drop n (b ∷ s) in
     ap (λ (l : List ℕ). pieceOf (frontOf (b ∷ s)) (b ∷ s) ++ l) (enough k m (drop n (b ∷ s)) (omega arith) (omega arith))
 
 -- the first piece, and the rest
-pub replaced-more : (s : List ℕ) → 0 < length s → replaced s ≡ pieceOf (frontOf s) s ++ replaced (drop (sizeOf (frontOf s)) s)
+pub replaced-more : (s : List ℕ) → 0 < length s → replaced s ≡ pieceOf (frontOf s) s ++ replaced (drop (frontSize (frontOf s)) s)
 unfolding replaced replacedBy
 replaced-more [] h = absurd (omega arith)
 replaced-more (b ∷ s) h =
-    let n = sizeOf (frontOf (b ∷ s)) in
+    let n = frontSize (frontOf (b ∷ s)) in
     let one = size-one (b ∷ s) (omega arith) in
     let e = length-drop n (b ∷ s) in
     ap (λ (l : List ℕ). pieceOf (frontOf (b ∷ s)) (b ∷ s) ++ l) (enough (length s) (length (drop n (b ∷ s))) (drop n (b ∷ s)) (omega arith) (omega arith))
@@ -86,10 +80,6 @@ pub replaced-none : (s : List ℕ) → length s ≡ 0 → replaced s ≡ []
 unfolding replaced replacedBy
 replaced-none [] h = refl
 replaced-none (b ∷ s) h = absurd (omega arith)
-
--- what is left of s behind n bytes, as a part of a slice has it
-pub rest-is : (n : ℕ) (s : List ℕ) → n ≤ length s → take (length s - n) (drop n s) ≡ drop n s
-rest-is n s h = take-all (length s - n) (drop n s) (omega (arith, length-drop n s))
 
 -- a well-formed sequence is there whole
 pub well-in : (s : List ℕ) {f : Front} {n : ℕ} → f ≡ frontOf s → f ≡ Front.WellFormed n → 0 < length s → n ≤ length s
@@ -119,8 +109,8 @@ pub completes-more : {old : List ℕ} {at : ℕ} (s : List ℕ) {now : List ℕ}
     → Completes old at s now o i → Fronted now o (take (length s - i) (drop i s)) next a n → Completes old at s next a (i + n)
 completes-more s {now} {o} {i} {next} {a} {n} h g p new r q =
     let long = length-drop i s in
-    let t : Fronted now o (drop i s) next a n = rw (rest-is i s (omega arith)) at p in
-    let k : drop (i + n) s ≡ drop (sizeOf (frontOf (drop i s))) (drop i s) = rw (← t .takes, drop-drop) in
+    let t : Fronted now o (drop i s) next a n = rw (rest-is s i) at p in
+    let k : drop (i + n) s ≡ drop (frontSize (frontOf (drop i s))) (drop i s) = rw (← t .takes, drop-drop) in
     g new r (rw (replaced-more (drop i s) (omega arith)) (put-put (t .puts) (rw k at q)))
 
 -- a front moves on by a byte at least, and not past the end
@@ -128,6 +118,6 @@ pub moves : (s : List ℕ) {old : List ℕ} {at i : ℕ} {new : List ℕ} {r n :
     → Fronted old at (take (length s - i) (drop i s)) new r n → (1 ≤ n) × (i + n ≤ length s)
 moves s {old} {at} {i} {new} {r} {n} h p =
     let long = length-drop i s in
-    let t : Fronted old at (drop i s) new r n = rw (rest-is i s (omega arith)) at p in
+    let t : Fronted old at (drop i s) new r n = rw (rest-is s i) at p in
     let e = t .takes in
     (omega (arith, size-one (drop i s) (omega arith)), omega (arith, size-in (drop i s) (omega arith)))

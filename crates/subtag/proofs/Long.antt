@@ -8,14 +8,15 @@ use native.Mathlib.Decide.{ℕ-discrete}
 use native.Mathlib.Nat.{min-le-left}
 use lib.ListN.{length, drop, length-append, length-drop, length-take}
 use borrow.Author.Tests.{eq-eqb, ne-eqb}
+use Rattle.laws.proofs.Lists.{Each}
 use Rattle.subtag.specs.declared.utf8.Front.{Front}
 use Rattle.subtag.specs.Utf8.{frontOf}
-use Rattle.subtag.specs.Subtag.{pieceOf, sizeOf, replaced, keep, dropNuls, subtagOf}
+use Rattle.subtag.specs.Subtag.{pieceOf, frontSize, replaced, keep, dropNuls, subtagOf}
 use Rattle.subtag.proofs.Laws.{size-one, size-in, replaced-more, replaced-none}
 use Rattle.subtag.proofs.Rows.{row-at}
 use Rattle.subtag.proofs.Strip.{subtag-is}
 
-piece-long : (f : Front) (s : List ℕ) → 1 ≤ sizeOf f → length (pieceOf f s) ≤ 3 * sizeOf f
+piece-long : (f : Front) (s : List ℕ) → 1 ≤ frontSize f → length (pieceOf f s) ≤ 3 * frontSize f
 piece-long (Front.WellFormed n) s h = omega (arith, length-take n s, min-le-left n (length s))
 piece-long (Front.IllFormed n) s h = omega arith
 
@@ -26,7 +27,7 @@ long-by (suc k) [] h = omega (arith, ap length (replaced-none [] (omega arith)))
 long-by (suc k) (b ∷ l) h =
     let s = b ∷ l in
     let p : 0 < length s = omega arith in
-    let n = sizeOf (frontOf s) in
+    let n = frontSize (frontOf s) in
     let d = length-drop n s in
     let least = size-one s p in
     let most = size-in s p in
@@ -72,8 +73,7 @@ low-front b s h =
 
 -- all bytes below 80
 abbrev pub Low : List ℕ → Type 0
-Low [] = Unit {0}
-Low (b ∷ s) = (b < 128) × Low s
+Low s = Each (λ b. b < 128) s
 
 low-same : (s : List ℕ) → Low s → replaced s ≡ s
 low-same [] h = replaced-none [] refl

@@ -9,11 +9,12 @@ use lib.Dec.{leb}
 use lib.ListN.{length, take, drop, length-append, length-drop}
 use lib.Seq.{length-take-le, drop-drop}
 use borrow.Author.Tests.{le-leb, lt-leb}
+use Rattle.laws.proofs.Lists.{rest-is}
 use Rattle.subtag.specs.declared.utf8.Front.{Front}
 use Rattle.subtag.specs.Utf8.{frontOf}
-use Rattle.subtag.specs.Subtag.{pieceOf, sizeOf, replaced}
+use Rattle.subtag.specs.Subtag.{pieceOf, frontSize, replaced}
 use Rattle.subtag.specs.Steps.{Measured}
-use Rattle.subtag.proofs.Laws.{size-one, size-in, well-in, replaced-more, replaced-none, rest-is}
+use Rattle.subtag.proofs.Laws.{size-one, size-in, well-in, replaced-more, replaced-none}
 
 -- a judged front, measured
 module _ (s : List ℕ) {f : Front} {n : ℕ} (e : f ≡ frontOf s) where
@@ -27,7 +28,7 @@ module _ (s : List ℕ) {f : Front} {n : ℕ} (e : f ≡ frontOf s) where
 -- a front of what is left behind place i: what it becomes and has, and what is left then
 module _ (s : List ℕ) {i becomes taken : ℕ} (h : i < length s) (m : Measured (take (length s - i) (drop i s)) becomes taken) where
   here : Measured (drop i s) becomes taken
-  here = rw (rest-is i s (omega arith)) at m
+  here = rw (rest-is s i) at m
 
   left : 0 < length (drop i s)
   left = omega (arith, length-drop i s)
@@ -41,8 +42,8 @@ module _ (s : List ℕ) {i becomes taken : ℕ} (h : i < length s) (m : Measured
   long-more : length (replaced (drop i s)) ≡ becomes + length (replaced (drop (i + taken) s))
   long-more =
       let f = frontOf (drop i s) in
-      let d : drop (sizeOf f) (drop i s) ≡ drop (i + taken) s = rw (← here .takes, drop-drop) in
-      ap length (replaced-more (drop i s) left) ∙ length-append (pieceOf f (drop i s)) (replaced (drop (sizeOf f) (drop i s)))
+      let d : drop (frontSize f) (drop i s) ≡ drop (i + taken) s = rw (← here .takes, drop-drop) in
+      ap length (replaced-more (drop i s) left) ∙ length-append (pieceOf f (drop i s)) (replaced (drop (frontSize f) (drop i s)))
       ∙ rw (← here .long, d)
 
   pub room-less : (room : ℕ) → becomes ≤ room → leb (length (replaced (drop i s))) room ≡ leb (length (replaced (drop (i + taken) s))) (room - becomes)

@@ -10,7 +10,7 @@ use lib.Seq.{take-all}
 use borrow.Author.Tests.{eq-eqb, ne-eqb}
 use Rattle.subtag.specs.declared.utf8.Front.{Front}
 use Rattle.subtag.specs.Utf8.{frontOf}
-use Rattle.subtag.specs.Subtag.{pieceOf, sizeOf, replaced, keep, dropNuls, subtagOf}
+use Rattle.subtag.specs.Subtag.{pieceOf, frontSize, replaced, keep, dropNuls, subtagOf}
 use Rattle.subtag.proofs.Laws.{size-one, size-in, replaced-more, replaced-none}
 use Rattle.subtag.proofs.Nuls.{none-left}
 use Rattle.subtag.proofs.Tail.{subtag-nul}
@@ -59,7 +59,7 @@ last-drop d e n [] h = absurd (omega arith)
 last-drop d e zero (b ∷ s) h = refl
 last-drop d e (suc n) (b ∷ s) h = last-drop d b n s (omega arith)
 
-ends-piece : (f : Front) (s : List ℕ) → length s ≤ sizeOf f → Ends s → Ends (pieceOf f s)
+ends-piece : (f : Front) (s : List ℕ) → length s ≤ frontSize f → Ends s → Ends (pieceOf f s)
 unfolding Ends lastOr
 ends-piece (Front.WellFormed n) s h e = rw (take-all n s h) e
 ends-piece (Front.IllFormed n) s h e = λ z. omega arith
@@ -72,7 +72,7 @@ ends-by (suc k) [] h e = absurd (e refl)
 ends-by (suc k) (b ∷ l) h e =
     let s = b ∷ l in
     let p : 0 < length s = omega arith in
-    let n = sizeOf (frontOf s) in
+    let n = frontSize (frontOf s) in
     let d = length-drop n s in
     let least = size-one s p in
     let most = size-in s p in

@@ -1,7 +1,7 @@
 -- A NUL at the end stands by itself: so a subtag with one is no longer than the replaced rest. Assumes nothing.
 use Prim.Native.Nat.{ℕ, zero, suc, _+_, _≤_, _<_}
 use mathlib.Core.Path.{_≡_, refl, sym, ap, _∙_}
-use mathlib.Core.Bool.{Bool, true, false, cond, _&&_}
+use mathlib.Core.Bool.{and-false}
 use mathlib.Core.List.{List, [], _∷_, _++_, append-assoc}
 use mathlib.Core.Option.{Option, none, some}
 use native.Mathlib.Omega.{arith}
@@ -10,15 +10,13 @@ use lib.Dec.{lit≤}
 use lib.ListN.{length, getD, drop, length-append, length-drop, List·getD-append}
 use lib.Seq.{take-append-le, drop-append-le}
 use borrow.Author.Tests.{lt-ltb, le-ltb, le-leb, lt-leb}
+use Rattle.laws.proofs.Choice.{chosen}
+use Rattle.laws.proofs.Lists.{Each}
 use Rattle.subtag.specs.declared.utf8.Front.{Front}
 use Rattle.subtag.specs.Utf8.{table, rowOf, within, okAt, matched, judge, frontOf}
-use Rattle.subtag.specs.Subtag.{pieceOf, sizeOf, replaced, replacedBy, dropNuls, subtagOf}
+use Rattle.subtag.specs.Subtag.{pieceOf, frontSize, replaced, replacedBy, dropNuls, subtagOf}
 use Rattle.subtag.proofs.Laws.{size-one, size-in, replaced-more}
 use Rattle.subtag.proofs.Nuls.{nul-last}
-
-and-false : (t : Bool) → (t && false) ≡ false
-and-false true = refl
-and-false false = refl
 
 padded : (l : List ℕ) (i : ℕ) → length l ≤ i → getD (l ++ 0 ∷ []) i 0 ≡ 0
 padded [] zero h = refl
@@ -37,8 +35,7 @@ ok-nul l i lo hi h =
 
 -- ranges that 0 is in none of
 abbrev High : List (ℕ × ℕ) → Type 0
-High [] = Unit {0}
-High (r ∷ rs) = (1 ≤ r .0) × High rs
+High rs = Each (λ r. 1 ≤ r .0) rs
 
 matched-nul : (rs : List (ℕ × ℕ)) (l : List ℕ) (i : ℕ) → High rs → matched rs (l ++ 0 ∷ []) i ≡ matched rs l i
 matched-nul [] l i h = refl
@@ -49,15 +46,11 @@ HighRow none = Unit {0}
 HighRow (some rs) = High rs
 
 abbrev HighRows : List (ℕ × ℕ × List (ℕ × ℕ)) → Type 0
-HighRows [] = Unit {0}
-HighRows (r ∷ rs) = High (r .2) × HighRows rs
+HighRows t = Each (λ r. High (r .2)) t
 
 row-high : (t : List (ℕ × ℕ × List (ℕ × ℕ))) (b : ℕ) → HighRows t → HighRow (rowOf t b)
 row-high [] b h = tt
-row-high (r ∷ rs) b h = either (within (r .0) (r .1) b) (some (r .2)) (rowOf rs b) (h .0) (row-high rs b (h .1)) where
-  either : (t : Bool) (x y : Option (List (ℕ × ℕ))) → HighRow x → HighRow y → HighRow (cond t x y)
-  either true x y p q = p
-  either false x y p q = q
+row-high (r ∷ rs) b h = chosen HighRow (within (r .0) (r .1) b) (h .0) (row-high rs b (h .1))
 
 table-high : HighRows table
 table-high = (
@@ -91,7 +84,7 @@ front-nul : (l : List ℕ) → 0 < length l → frontOf (l ++ 0 ∷ []) ≡ fron
 unfolding frontOf
 front-nul l h = rw (List·getD-append l (0 ∷ []) 0 0 h) (judge-nul (rowOf table (getD l 0 0)) l (row-high table (getD l 0 0) table-high))
 
-piece-nul : (f : Front) (l : List ℕ) → sizeOf f ≤ length l → pieceOf f (l ++ 0 ∷ []) ≡ pieceOf f l
+piece-nul : (f : Front) (l : List ℕ) → frontSize f ≤ length l → pieceOf f (l ++ 0 ∷ []) ≡ pieceOf f l
 piece-nul (Front.WellFormed n) l h = take-append-le n l (0 ∷ []) h
 piece-nul (Front.IllFormed n) l h = refl
 
@@ -106,13 +99,13 @@ nul-by (suc k) [] h = alone
 nul-by (suc k) (b ∷ l) h =
     let s = b ∷ l in
     let p : 0 < length s = omega arith in
-    let n = sizeOf (frontOf s) in
+    let n = frontSize (frontOf s) in
     let least = size-one s p in
     let most = size-in s p in
     let e = length-drop n s in
     let q : 0 < length (s ++ 0 ∷ []) = omega (arith, length-append s (0 ∷ [])) in
     replaced-more (s ++ 0 ∷ []) q
-    ∙ ap (λ (f : Front). pieceOf f (s ++ 0 ∷ []) ++ replaced (drop (sizeOf f) (s ++ 0 ∷ []))) (front-nul s p)
+    ∙ ap (λ (f : Front). pieceOf f (s ++ 0 ∷ []) ++ replaced (drop (frontSize f) (s ++ 0 ∷ []))) (front-nul s p)
     ∙ ap (λ (x : List ℕ). x ++ replaced (drop n (s ++ 0 ∷ []))) (piece-nul (frontOf s) s most)
     ∙ ap (λ (x : List ℕ). pieceOf (frontOf s) s ++ replaced x) (drop-append-le n s (0 ∷ []) most)
     ∙ ap (λ (x : List ℕ). pieceOf (frontOf s) s ++ x) (nul-by k (drop n s) (omega arith))

@@ -5,14 +5,14 @@ use mathlib.Core.List.{List}
 use lib.ListN.{length}
 use Rattle.buffer.specs.Put.{Put}
 use Rattle.subtag.specs.Utf8.{frontOf}
-use Rattle.subtag.specs.Subtag.{pieceOf, sizeOf}
+use Rattle.subtag.specs.Subtag.{pieceOf, frontSize}
 
 -- a writer that found the buffer old has put at place at what the front of s becomes, and taken the front: it leaves new and stops at r
 pub record Fronted (old : List ℕ) (at : ℕ) (s : List ℕ) (new : List ℕ) (r taken : ℕ) : Type 0 where
   pub puts : Put old at (pieceOf (frontOf s) s) new r
-  pub takes : taken ≡ sizeOf (frontOf s)
+  pub takes : taken ≡ frontSize (frontOf s)
 
 -- the front of s becomes so many bytes, and has so many
 pub record Measured (s : List ℕ) (becomes taken : ℕ) : Type 0 where
   pub long : becomes ≡ length (pieceOf (frontOf s) s)
-  pub takes : taken ≡ sizeOf (frontOf s)
+  pub takes : taken ≡ frontSize (frontOf s)

@@ -17,15 +17,15 @@ pieceOf (Front.WellFormed n) s = take n s
 pieceOf (Front.IllFormed n) s = replacement
 
 -- how many bytes the front has
-abbrev pub sizeOf : Front → ℕ
-sizeOf (Front.WellFormed n) = n
-sizeOf (Front.IllFormed n) = n
+abbrev pub frontSize : Front → ℕ
+frontSize (Front.WellFormed n) = n
+frontSize (Front.IllFormed n) = n
 
 -- front after front, k of them at the most
 unfoldable pub replacedBy : ℕ → List ℕ → List ℕ
 replacedBy zero s = []
 replacedBy (suc k) [] = []
-replacedBy (suc k) (b ∷ s) = pieceOf (frontOf (b ∷ s)) (b ∷ s) ++ replacedBy k (drop (sizeOf (frontOf (b ∷ s))) (b ∷ s))
+replacedBy (suc k) (b ∷ s) = pieceOf (frontOf (b ∷ s)) (b ∷ s) ++ replacedBy k (drop (frontSize (frontOf (b ∷ s))) (b ∷ s))
 
 -- s with its ill-formed bytes replaced; each front has a byte at least, so there are no more fronts than bytes
 unfoldable pub replaced : List ℕ → List ℕ

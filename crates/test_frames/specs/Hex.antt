@@ -14,5 +14,5 @@ hexOf [] = []
 hexOf (b ∷ s) = digitOf (b / 16) ∷ digitOf (b % 16) ∷ hexOf s
 
 -- the digits and a newline
-abbrev pub lineOf : List ℕ → List ℕ
-lineOf s = hexOf s ++ (10 ∷ [])
+abbrev pub hexLine : List ℕ → List ℕ
+hexLine s = hexOf s ++ (10 ∷ [])

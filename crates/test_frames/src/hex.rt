@@ -3,11 +3,11 @@ ghost use mathlib.Core.Path.{_≡_};
 ghost use mathlib.Core.List.{_∷_, []};
 ghost use Prim.Native.Nat.{_<_};
 ghost use Rattle.buffer.specs.Put.{Put};
-ghost use Rattle.test_frames.specs.Hex.{digitOf, hexOf, lineOf};
+ghost use Rattle.test_frames.specs.Hex.{digitOf, hexOf, hexLine};
 
 // Puts the two digits of each byte and a newline at the line's front.
 pub fn line(bytes: &[u8], line: &mut [u8]) -> usize
-    ensures { λ r. ⌜ Put (now (line .entry)) 0 (lineOf (now (bytes .entry))) (now (line .exit)) r ⌝ }
+    ensures { λ r. ⌜ Put (now (line .entry)) 0 (hexLine (now (bytes .entry))) (now (line .exit)) r ⌝ }
 {
     let mut end = 0;
     let mut i = 0;

@@ -7,14 +7,15 @@ use lib.Dec.{eqb}
 use lib.ListN.{length, length-append}
 use mir.Val.{Val}
 use denote.Laws.{Is}
-use Rattle.answers.proofs.Says.{chosen}
+use Rattle.laws.proofs.Choice.{chosen}
 use Rattle.buffer.specs.Ascii.{ascii}
 use Rattle.buffer.specs.Decimal.{decimal}
 use Rattle.buffer.proofs.Digits.{decimal-long}
 use Rattle.record.specs.declared.ResTableConfig.{ResTableConfig}
 use Rattle.record.proofs.ResTableConfig as config
+use Rattle.record.proofs.Shapes.{shaped}
 use Rattle.locale.specs.Locale.{localeSaid, localeWords}
-use Rattle.locale.proofs.Long.{Sized, locale-long, sized}
+use Rattle.locale.proofs.Long.{locale-long}
 use Rattle.places.specs.Places.{some, minorWords, pixelPlace, versionPlace, placesOf, textOf}
 use Rattle.text.proofs.Cost.{cost, first-long, Within, within-total, words-cost, label-cost, dp-cost, gender-cost, layout-dir-cost, screen-size-cost, screen-long-cost, screen-round-cost, wide-color-gamut-cost, hdr-cost, orientation-cost, ui-mode-cost, ui-mode-night-cost, density-cost, touchscreen-cost, keys-hidden-cost, keyboard-cost, nav-hidden-cost, navigation-cost}
 
@@ -30,7 +31,10 @@ pub record Ranged (r : ResTableConfig) : Type 0 where
   pub version : Word (r .version)
   pub config : Word (r .«screen_config»)
   pub dp : Word (r .«screen_size_dp»)
-  pub sized : Sized r
+  pub locale : Word (r .locale)
+  pub script : length (r .«locale_script») ≤ 4
+  pub variant : length (r .«locale_variant») ≤ 8
+  pub numbering : length (r .«locale_numbering_system») ≤ 8
 
 code-cost : (front : List ℕ) (n : ℕ) → n < 65536 → cost (some n, front ++ decimal n) ≤ 1 + (length front + 5)
 code-cost front n h = label-cost (some n) front n 5 (decimal-long 4 n (omega arith))
@@ -70,7 +74,7 @@ module _ (r : ResTableConfig) (h : Ranged r) where
         (
           code-cost (ascii "mnc") (r .imsi / 65536) (omega arith),
           (
-            words-cost (localeSaid r) (localeWords r) 84 (locale-long r (h .sized)),
+            words-cost (localeSaid r) (localeWords r) 84 (locale-long r (h .locale) (h .script) (h .variant) (h .numbering)),
             (
               gender-cost (r .«generic_purpose_field» / 16777216),
               (
@@ -147,6 +151,7 @@ module _ (r : ResTableConfig) (h : Ranged r) where
 -- for every record that the type has
 pub text-long : (r : ResTableConfig) (vs : List Val) → Is config.the-row r vs → length (textOf r) ≤ 344
 text-long r vs h =
+    let s = shaped r vs h in
     ranged-long r
     (record {
       imsi = search needs;
@@ -155,5 +160,8 @@ text-long r vs h =
       version = search needs;
       config = search needs;
       dp = search needs;
-      sized = sized r vs h;
+      locale = search needs;
+      script = omega (arith, s .script);
+      variant = omega (arith, s .variant);
+      numbering = omega (arith, s .numbering);
     })

@@ -7,7 +7,7 @@ use native.Mathlib.Omega.{arith}
 use native.Mathlib.Decide.{decLt}
 use lib.ListN.{length, drop, replicate, length-take, length-replicate, drop-of-length-le}
 use lib.Seq.{drop-cons}
-use Rattle.answers.proofs.Says.{chosen}
+use Rattle.laws.proofs.Choice.{chosen}
 use Rattle.record.specs.Table.{Bytes, part, le, startOf, widthOf}
 use Rattle.reading.specs.Reading.{fieldBy, recordBy, plain, aged}
 use Rattle.places.specs.Places.{textOf}
@@ -51,7 +51,10 @@ module _ (p : ℕ → Bool) (s : List ℕ) (h : Bytes s) where
     version = field-below p s 6 h;
     config = field-below p s 7 h;
     dp = field-below p s 8 h;
-    sized = record { word = field-below p s 2 h; script = field-wide p s 9; variant = field-wide p s 10; numbering = field-wide p s 13 };
+    locale = field-below p s 2 h;
+    script = field-wide p s 9;
+    variant = field-wide p s 10;
+    numbering = field-wide p s 13;
   }
 
 -- no text is longer of what is read of some bytes, whichever fields are

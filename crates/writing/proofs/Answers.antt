@@ -7,6 +7,8 @@ use native.Mathlib.Omega.{arith}
 use lib.ListN.{length, drop, replicate, length-replicate}
 use lib.Seq.{drop-at}
 use borrow.Author.Tests.{not-false, ltb-false}
+use Rattle.laws.proofs.Tests.{or-neither}
+use Rattle.laws.proofs.Below.{each-spot, each-stop, each-at}
 use Rattle.answers.specs.declared.Refusal.{Refusal}
 use Rattle.answers.specs.declared.Written.{Written}
 use Rattle.answers.proofs.Exactly.{Goes, one-unless}
@@ -17,10 +19,10 @@ use Rattle.buffer.proofs.Exactly.{written-row, refuses-by}
 use Rattle.record.specs.Table.{allZero}
 use Rattle.record.specs.declared.ResTableConfig.{ResTableConfig}
 use Rattle.reading.specs.Reading.{reads}
-use Rattle.writing.specs.Writing.{bytesOf, span, shown, keeps, tidy, writeOf, Shaped}
+use Rattle.record.specs.Shape.{Shaped}
+use Rattle.writing.specs.Writing.{bytesOf, span, bytesWritten, keeps, tidy, writeOf}
 use Rattle.writing.specs.Demand1.{unreadField, Stray, UntidyWhenStray, WriterRefuses}
-use Rattle.writing.proofs.Below.{or-neither, each-place, each-stop, each-at}
-use Rattle.writing.proofs.Places.{shown-long}
+use Rattle.writing.proofs.Places.{written-long}
 
 -- a field that isn't read, and isn't zero
 pub unread-is : (r : ResTableConfig) (old : List ℕ) → tidy r ≡ false → writeOf r old ≡ refused Refusal.UnreadField old
@@ -28,32 +30,32 @@ unfolding writeOf
 unread-is r old e = rw e
 
 module _ (r : ResTableConfig) (w : Shaped r) (old : List ℕ) (fine : tidy r ≡ true) where
-  written-is : writeOf r old ≡ written (shown r) old
+  written-is : writeOf r old ≡ written (bytesWritten r) old
   unfolding writeOf
   written-is = rw fine
 
   -- fewer than T bytes
   pub short-is : length old < span r → writeOf r old ≡ refused Refusal.ShortBuffer old
-  short-is h = written-is ∙ written-short (shown r) old (omega (arith, shown-long r w))
+  short-is h = written-is ∙ written-short (bytesWritten r) old (omega (arith, written-long r w))
 
   -- T bytes
-  pub wrote-is : span r ≤ length old → writeOf r old ≡ wrote (shown r) old
-  wrote-is h = written-is ∙ written-fits (shown r) old (omega (arith, shown-long r w))
+  pub wrote-is : span r ≤ length old → writeOf r old ≡ wrote (bytesWritten r) old
+  wrote-is h = written-is ∙ written-fits (bytesWritten r) old (omega (arith, written-long r w))
 
   -- what is left where T bytes were cleared and the fields laid over them
-  pub laid-is : (t : ℕ) (cleared new : List ℕ) → t ≡ span r → t ≤ length old → cleared ≡ replicate t 0 ++ drop t old → new ≡ shown r ++ drop t cleared
+  pub laid-is : (t : ℕ) (cleared new : List ℕ) → t ≡ span r → t ≤ length old → cleared ≡ replicate t 0 ++ drop t old → new ≡ bytesWritten r ++ drop t cleared
       → outcome (Written.Wrote t) new ≡ writeOf r old
   laid-is t cleared new e h c n =
-      let l : t ≡ length (shown r) = e ∙ sym (shown-long r w) in
+      let l : t ≡ length (bytesWritten r) = e ∙ sym (written-long r w) in
       let d : drop t cleared ≡ drop t old = ap (drop t) c ∙ drop-at (replicate t 0) (drop t old) t (length-replicate {A = ℕ} t 0) in
-      ap (outcome (Written.Wrote t)) (n ∙ ap (λ (o : List ℕ). shown r ++ o) d)
-      ∙ ap (λ (k : ℕ). outcome (Written.Wrote k) (shown r ++ drop k old)) l
+      ap (outcome (Written.Wrote t)) (n ∙ ap (λ (o : List ℕ). bytesWritten r ++ o) d)
+      ∙ ap (λ (k : ℕ). outcome (Written.Wrote k) (bytesWritten r ++ drop k old)) l
       ∙ sym (wrote-is (omega arith))
 
 stray : (r : ResTableConfig) → tidy r ≡ false → Stray r
 unfolding tidy
 stray r e =
-    let w = each-place 15 (keeps r) e in
+    let w = each-spot 15 (keeps r) e in
     let p = or-neither (w .gives) in
     record { field = w .place; within = w .within; skipped = p .0; filled = p .1 }
 
@@ -71,11 +73,11 @@ unfolding tidy
 unread-zero r fine f h e = rw e at (each-at 15 (keeps r) fine f h)
 
 -- the writer goes by 6 and 5
-writer-row : (r : ResTableConfig) → Shaped r → (old : List ℕ) → Goes (unreadField r ∷ shorterThan (span r) old ∷ []) (λ why. refused why old) (wrote (shown r) old) (writeOf r old)
+writer-row : (r : ResTableConfig) → Shaped r → (old : List ℕ) → Goes (unreadField r ∷ shorterThan (span r) old ∷ []) (λ why. refused why old) (wrote (bytesWritten r) old) (writeOf r old)
 unfolding writeOf
 writer-row r w old =
     one-unless (tidy r) Refusal.UnreadField
-    (subst (λ (n : ℕ). Goes (shorterThan n old ∷ []) (λ why. refused why old) (wrote (shown r) old) (written (shown r) old)) (shown-long r w) (written-row (shown r) old))
+    (subst (λ (n : ℕ). Goes (shorterThan n old ∷ []) (λ why. refused why old) (wrote (bytesWritten r) old) (written (bytesWritten r) old)) (written-long r w) (written-row (bytesWritten r) old))
 
 -- `write`: 6, 5
 pub writer-exactly : (r : ResTableConfig) (old : List ℕ) → WriterRefuses r old

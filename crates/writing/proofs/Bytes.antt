@@ -7,9 +7,9 @@ use native.Mathlib.Omega.{arith}
 use native.Mathlib.Decide.{decLt}
 use lib.ListN.{length, getD, drop, replicate, length-take, List·getD-eq-default}
 use lib.Seq.{getD-take, getD-drop}
+use Rattle.laws.proofs.Lists.{elements}
 use Rattle.record.specs.Table.{Bytes, part, le, allZero, bit}
 use Rattle.writing.specs.Writing.{bytes4}
-use Rattle.writing.proofs.Arms.{elements}
 use Rattle.writing.proofs.Zeros.{zeros-at}
 
 zero-byte : (x : ℕ) → x ≡ 0 → x < 256
@@ -42,7 +42,7 @@ four-back a b c d ha hb hc hd =
 -- four bytes that are read as a word
 pub word-back : (l : List ℕ) → length l ≡ 4 → Bytes l → bytes4 (le l) ≡ l
 word-back l h g =
-    let e = sym (elements 3 l h) in
+    let e = sym (elements 4 l h) in
     ap (λ (m : List ℕ). bytes4 (le m)) e ∙ four-back (getD l 0 0) (getD l 1 0) (getD l 2 0) (getD l 3 0) (g 0) (g 1) (g 2) (g 3) ∙ sym e
 
 yes-one : (b : ℕ) → b ≤ 1 → bit (not (allZero (b ∷ []))) ∷ [] ≡ b ∷ []
@@ -52,7 +52,7 @@ yes-one (suc (suc b)) h = absurd (omega arith)
 
 -- a byte that is 0 or 1 and is read as yes or no
 pub yes-back : (l : List ℕ) → length l ≡ 1 → getD l 0 0 ≤ 1 → bit (not (allZero l)) ∷ [] ≡ l
-yes-back l h g = let e = sym (elements 0 l h) in ap (λ (m : List ℕ). bit (not (allZero m)) ∷ []) e ∙ yes-one (getD l 0 0) g ∙ sym e
+yes-back l h g = let e = sym (elements 1 l h) in ap (λ (m : List ℕ). bit (not (allZero m)) ∷ []) e ∙ yes-one (getD l 0 0) g ∙ sym e
 
 pub bit-most : (b : Bool) → bit b ≤ 1
 bit-most true = omega arith

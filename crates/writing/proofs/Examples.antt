@@ -9,7 +9,7 @@ use Rattle.answers.specs.Tells.{success, refusal}
 use Rattle.buffer.specs.Written.{written}
 use Rattle.record.specs.declared.ResTableConfig.{ResTableConfig}
 use Rattle.reading.specs.Reading.{reads}
-use Rattle.writing.specs.Writing.{some, each, bytesOf, laid, tidy, writeOf, decoded}
+use Rattle.writing.specs.Writing.{bytesOf, laid, tidy, writeOf, decoded}
 
 -- a record of that size with mcc 310, and in its later fields only a script, a variant and the computed byte
 abbrev sample : ℕ → List ℕ → List ℕ → Bool → ResTableConfig
@@ -62,5 +62,5 @@ pub examples :
     × (decoded 44 40 ≡ false)
     × (decoded 3 15 ≡ true)
     × (decoded 70 64 ≡ false)
-unfolding writeOf written tidy each laid reads bytesOf decoded some
+unfolding writeOf written tidy laid reads bytesOf decoded
 examples = (refl, refl, refl, refl, refl, refl, refl, refl, refl, refl, refl, refl)

@@ -1,26 +1,22 @@
 -- A field that is read at the record's size, or is zero. Assumes nothing.
 use Prim.Native.Nat.{ℕ, _≤_, _<_}
-use mathlib.Core.Path.{_≡_, refl, sym, ap, _∙_}
-use mathlib.Core.Bool.{Bool, true, false, not, _||_}
+use mathlib.Core.Path.{_≡_, sym, ap, _∙_}
+use mathlib.Core.Bool.{Bool, true, false, not, _||_, or-true}
 use mathlib.Core.List.{List}
-use lib.Dec.{leb, leb→le}
+use lib.Dec.{leb}
 use lib.ListN.{take}
-use borrow.Author.Tests.{le-leb, lt-leb}
+use borrow.Author.Tests.{le-leb, lt-leb, leb-true}
+use Rattle.laws.proofs.Below.{in-row}
 use Rattle.record.specs.Table.{allZero, endOf, widthOf}
 use Rattle.record.specs.declared.ResTableConfig.{ResTableConfig}
 use Rattle.reading.specs.Reading.{reads}
 use Rattle.reading.proofs.Limits.{reads-is}
-use Rattle.reading.proofs.Rows.{in-row}
 use Rattle.marking.specs.Marks.{lateBytes}
 use Rattle.writing.specs.Writing.{bytesOf, keeps, span}
 
 -- no field has more than eight bytes
 pub width-most : (f : ℕ) → f < 15 → widthOf f ≤ 8
-width-most f h = leb→le (widthOf f) 8 (in-row (λ g. leb (widthOf g) 8) 15 tt f h)
-
-or-true : (b : Bool) → b || true ≡ true
-or-true true = refl
-or-true false = refl
+width-most f h = leb-true (widthOf f) 8 (in-row 15 (λ g. leb (widthOf g) 8) tt f h)
 
 not-back : (b c : Bool) → c ≡ not b → b ≡ not c
 not-back true c e = ap not (sym e)

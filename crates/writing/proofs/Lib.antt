@@ -1,6 +1,4 @@
-pub mod Below
 pub mod Zeros
-pub mod Shapes
 pub mod Arms
 pub mod Held
 pub mod Laid

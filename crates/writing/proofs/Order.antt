@@ -1,32 +1,22 @@
 -- The table's order, and places in fields. Assumes nothing.
-use Prim.Native.Nat.{ℕ, _≤_, _<_, max}
-use mathlib.Core.Path.{_≡_, refl, sym, _∙_}
-use mathlib.Core.Bool.{Bool, true, false}
-use lib.Dec.{T, leb}
+use Prim.Native.Nat.{ℕ, _≤_, _<_}
+use mathlib.Core.Path.{_≡_}
+use mathlib.Core.Bool.{true}
+use lib.Dec.{leb}
 use borrow.Author.Tests.{leb-true, ltb-true}
+use Rattle.laws.specs.Below.{eachBelow}
+use Rattle.laws.proofs.Tests.{and-both}
+use Rattle.laws.proofs.Below.{in-row, each-at}
 use Rattle.record.specs.Table.{startOf, endOf}
-use Rattle.reading.specs.Reading.{reads}
-use Rattle.reading.proofs.Limits.{reads-is}
-use Rattle.reading.proofs.Rows.{in-row}
-use Rattle.writing.specs.Writing.{each, inField}
-use Rattle.writing.proofs.Below.{and-both, each-at}
-
-true-of : (b : Bool) → T b → b ≡ true
-true-of true t = refl
-true-of false t = absurd t
+use Rattle.writing.specs.Writing.{inField}
 
 -- a field ends before a later one starts
 pub ordered : (f g : ℕ) → f < g → g < 15 → endOf f ≤ startOf g
-unfolding each
 ordered f g h l =
     leb-true (endOf f) (startOf g)
-    (each-at g (λ k. leb (endOf k) (startOf g)) (true-of _ (in-row (λ j. each j (λ k. leb (endOf k) (startOf j))) 15 tt g l)) f h)
+    (each-at g (λ k. leb (endOf k) (startOf g)) (in-row 15 (λ j. eachBelow j (λ k. leb (endOf k) (startOf j))) tt g l) f h)
 
 pub in-says : (k f : ℕ) → inField k f ≡ true → (startOf f ≤ k) × (k < endOf f)
 in-says k f e =
     let p = and-both e in
     (leb-true (startOf f) k (p .0), ltb-true k (endOf f) (p .1))
-
--- a field that is read ends within T
-pub end-within : (size f : ℕ) → f < 15 → reads size f ≡ true → endOf f ≤ max size 16
-end-within size f h e = leb-true (endOf f) (max size 16) (sym (reads-is f size h) ∙ e)

@@ -8,14 +8,15 @@ use lib.Dec.{leb, ltb, lit≤}
 use lib.ListN.{length, getD, take, length-replicate, List·getD-append}
 use lib.Seq.{paste, length-paste, take-paste, drop-paste, length-take-le, getD-take, getD-drop, getD-append-add}
 use borrow.Author.Tests.{ltb-true, ltb-false, leb-false}
+use Rattle.laws.proofs.Below.{none, _then_, all-at, none-at}
 use Rattle.record.specs.Table.{startOf, endOf, widthOf}
 use Rattle.reading.specs.Reading.{reads}
 use Rattle.record.specs.declared.ResTableConfig.{ResTableConfig}
-use Rattle.reading.proofs.Limits.{start-end}
-use Rattle.writing.specs.Writing.{bytesOf, span, laid, shown, inField, decoded, Shaped}
-use Rattle.writing.proofs.Below.{none, _then_, all-at, none-at}
+use Rattle.reading.proofs.Limits.{start-end, end-within}
+use Rattle.record.specs.Shape.{Shaped}
+use Rattle.writing.specs.Writing.{bytesOf, span, laid, bytesWritten, inField, decoded}
 use Rattle.writing.proofs.Zeros.{zeros-at}
-use Rattle.writing.proofs.Order.{ordered, end-within}
+use Rattle.writing.proofs.Order.{ordered}
 
 -- a byte of a list with x pasted over it
 module _ (d x : List ℕ) (a n : ℕ) (hd : a + n ≤ length d) (hx : n ≤ length x) (k : ℕ) where
@@ -99,12 +100,12 @@ module _ (r : ResTableConfig) (w : Shaped r) where
     laid-out zero h o = zeros-at (span r) k
     laid-out (suc m) h o = out-by m (omega arith) (laid-out m (omega arith) (λ f g. o f (omega arith))) (reads (r .size) m) refl (o m (omega arith))
 
-    pub shown-out : decoded (r .size) k ≡ false → getD (shown r) k 0 ≡ 0
+    pub written-out : decoded (r .size) k ≡ false → getD (bytesWritten r) k 0 ≡ 0
     unfolding decoded
-    shown-out e = laid-out 15 (lit≤ tt) (λ f h. none-at 15 (λ f. reads (r .size) f && inField k f) e f h)
+    written-out e = laid-out 15 (lit≤ tt) (λ f h. none-at 15 (λ f. reads (r .size) f && inField k f) e f h)
 
-  pub shown-in : (k f : ℕ) → f < 15 → reads (r .size) f ≡ true → startOf f ≤ k → k < endOf f → getD (shown r) k 0 ≡ getD (bytesOf r f) (k - startOf f) 0
-  shown-in k f h t ge lt = laid-in k f t ge lt 15 (lit≤ tt) h
+  pub written-in : (k f : ℕ) → f < 15 → reads (r .size) f ≡ true → startOf f ≤ k → k < endOf f → getD (bytesWritten r) k 0 ≡ getD (bytesOf r f) (k - startOf f) 0
+  written-in k f h t ge lt = laid-in k f t ge lt 15 (lit≤ tt) h
 
-  pub shown-long : length (shown r) ≡ span r
-  shown-long = laid-long 15 (lit≤ tt)
+  pub written-long : length (bytesWritten r) ≡ span r
+  written-long = laid-long 15 (lit≤ tt)

@@ -1,12 +1,11 @@
--- Bytes that are all zero, and the bytes of a part. Assumes nothing.
-use Prim.Native.Nat.{ℕ, zero, suc, _+_, _-_, _≤_, _<_}
-use mathlib.Core.Path.{_≡_, refl, sym, ap, _∙_}
+-- Bytes that are all zero. Assumes nothing.
+use Prim.Native.Nat.{ℕ, zero, suc}
+use mathlib.Core.Path.{_≡_, refl, sym, _∙_}
 use mathlib.Core.Bool.{true}
 use mathlib.Core.List.{List}
-use native.Mathlib.Omega.{arith}
-use lib.ListN.{length, getD, drop, replicate, length-replicate}
-use lib.Seq.{ext-getD, getD-take, getD-drop}
-use Rattle.record.specs.Table.{part, allZero}
+use lib.ListN.{length, getD, replicate, length-replicate}
+use lib.Seq.{ext-getD}
+use Rattle.record.specs.Table.{allZero}
 use Rattle.marking.proofs.Zeros.{each-zero}
 
 pub zeros-at : (n k : ℕ) → _≡_ {A = ℕ} (getD (replicate n 0) k 0) 0
@@ -23,9 +22,3 @@ zeros-of l e =
 pub all-zeros : (n : ℕ) → allZero (replicate n 0) ≡ true
 all-zeros zero = refl
 all-zeros (suc n) = all-zeros n
-
--- a byte of a part
-pub part-at : (s : List ℕ) (a n k : ℕ) → a ≤ k → k - a < n → getD (part s a n) (k - a) 0 ≡ getD s k 0
-part-at s a n k h g =
-    let e : a + (k - a) ≡ k = omega arith in
-    getD-take n (drop a s) (k - a) 0 g ∙ getD-drop a s (k - a) 0 ∙ ap (λ (m : ℕ). getD s m 0) e

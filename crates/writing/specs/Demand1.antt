@@ -10,7 +10,8 @@ use Rattle.buffer.specs.Demand1.{shorterThan, Refuses}
 use Rattle.record.specs.declared.ResTableConfig.{ResTableConfig}
 use Rattle.record.specs.Table.{allZero}
 use Rattle.reading.specs.Reading.{reads}
-use Rattle.writing.specs.Writing.{bytesOf, span, tidy, writeOf, Shaped}
+use Rattle.record.specs.Shape.{Shaped}
+use Rattle.writing.specs.Writing.{bytesOf, span, tidy, writeOf}
 
 -- 6: a field that isn't read at the record's size isn't zero
 abbrev pub unreadField : ResTableConfig → Condition

@@ -1,26 +1,17 @@
 -- 01, "Numbers given back": what the writer writes and when it refuses, and which bytes it gives back as they were. Assumes nothing.
-use Prim.Native.Nat.{ℕ, zero, suc, _/_, _%_, _<_, _≤_, max}
+use Prim.Native.Nat.{ℕ, zero, suc, _/_, _%_, _<_, _≤_}
 use mathlib.Core.Path.{_≡_}
 use mathlib.Core.List.{List, [], _∷_}
 use mathlib.Core.Bool.{Bool, true, false, cond, _||_, _&&_}
 use lib.Dec.{leb, ltb}
 use lib.ListN.{length, getD, replicate}
 use lib.Seq.{paste}
+use Rattle.laws.specs.Below.{someBelow, eachBelow}
 use Rattle.answers.specs.declared.Refusal.{Refusal}
 use Rattle.buffer.specs.Written.{Outcome, written, refused}
 use Rattle.record.specs.declared.ResTableConfig.{ResTableConfig}
-use Rattle.record.specs.Table.{startOf, endOf, widthOf, allZero, bit}
+use Rattle.record.specs.Table.{startOf, endOf, widthOf, allZero, bit, bytesTaken}
 use Rattle.reading.specs.Reading.{reads, sizeOf, taken}
-
--- p holds at some of the numbers below n
-unfoldable pub some : ℕ → (ℕ → Bool) → Bool
-some zero p = false
-some (suc n) p = p n || some n p
-
--- p holds at each of the numbers below n
-unfoldable pub each : ℕ → (ℕ → Bool) → Bool
-each zero p = true
-each (suc n) p = p n && each n p
 
 -- the four little-endian bytes of a word
 abbrev pub bytes4 : ℕ → List ℕ
@@ -52,7 +43,7 @@ bytesOf r f = getD (fieldsOf r) f []
 
 -- T: how many bytes a record takes
 abbrev pub span : ResTableConfig → ℕ
-span r = max (r .size) 16
+span r = bytesTaken (r .size)
 
 -- T zeros, and over them, each from its start on, those of the first n fields that are read at the record's size
 unfoldable pub laid : ResTableConfig → ℕ → List ℕ
@@ -60,8 +51,8 @@ laid r zero = replicate (span r) 0
 laid r (suc f) = cond (reads (r .size) f) (paste (laid r f) (startOf f) (bytesOf r f) (widthOf f)) (laid r f)
 
 -- the T bytes of a record: size and every field that is read at that size, and zero elsewhere
-abbrev pub shown : ResTableConfig → List ℕ
-shown r = laid r 15
+abbrev pub bytesWritten : ResTableConfig → List ℕ
+bytesWritten r = laid r 15
 
 -- field f is read at the record's size, or it is zero
 abbrev pub keeps : ResTableConfig → ℕ → Bool
@@ -69,18 +60,11 @@ keeps r f = reads (r .size) f || allZero (bytesOf r f)
 
 -- every field that isn't read at the record's size is zero
 unfoldable pub tidy : ResTableConfig → Bool
-tidy r = each 15 (keeps r)
+tidy r = eachBelow 15 (keeps r)
 
 -- writing a record: 6 when a field that isn't read at its size isn't zero, then 5; else its T bytes
 unfoldable pub writeOf : ResTableConfig → List ℕ → Outcome
-writeOf r old = cond (tidy r) (written (shown r) old) (refused Refusal.UnreadField old)
-
--- the arrays of a record have the lengths of their types
-pub record Shaped (r : ResTableConfig) : Type 0 where
-  pub script : length (r .«locale_script») ≡ 4
-  pub variant : length (r .«locale_variant») ≡ 8
-  pub numbering : length (r .«locale_numbering_system») ≡ 8
-  pub padding : length (r .«end_padding») ≡ 3
+writeOf r old = cond (tidy r) (written (bytesWritten r) old) (refused Refusal.UnreadField old)
 
 -- place k lies in field f
 abbrev pub inField : ℕ → ℕ → Bool
@@ -88,7 +72,7 @@ inField k f = leb (startOf f) k && ltb k (endOf f)
 
 -- place k lies in a field that is read at that size
 unfoldable pub decoded : ℕ → ℕ → Bool
-decoded size k = some 15 (λ f. reads size f && inField k f)
+decoded size k = someBelow 15 (λ f. reads size f && inField k f)
 
 -- the bytes of a record that say no more than the record: of its T bytes those in no read field are zero, and the computed
 -- byte, where it is read, is 0 or 1

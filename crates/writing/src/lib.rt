@@ -12,7 +12,8 @@ ghost use lib.ListN.{drop, getD, length, replicate, take};
 ghost use lib.Seq.{paste};
 ghost use Rattle.buffer.specs.Written.{outcome};
 ghost use Rattle.record.specs.Table.{bit, widthOf};
-ghost use Rattle.writing.specs.Writing.{Shaped, bytes4, bytesOf, shown, span, tidy, writeOf};
+ghost use Rattle.record.specs.Shape.{Shaped};
+ghost use Rattle.writing.specs.Writing.{bytes4, bytesOf, bytesWritten, span, tidy, writeOf};
 
 // Nothing to run: its contract shows that the arrays of every record have the lengths that the theorems on writing and
 // reading back ask for.
@@ -45,7 +46,7 @@ fn clear(out: &mut [u8], t: usize)
 }
 
 // The bytes of a word, and zeros.
-fn word(x: u32) -> [u8; 8]
+fn word_bytes(x: u32) -> [u8; 8]
     ensures { λ r. ⌜ r ≡ bytes4 x ++ (0 ∷ 0 ∷ 0 ∷ 0 ∷ []) ⌝ }
 {
     [
@@ -74,13 +75,6 @@ fn three(x: [u8; 3]) -> [u8; 8]
     [x[0], x[1], x[2], 0, 0, 0, 0, 0]
 }
 
-// A yes as 1.
-fn bit_of(yes: bool) -> u8
-    ensures { λ r. ⌜ r ≡ bit yes ⌝ }
-{
-    if yes { 1 } else { 0 }
-}
-
 // One byte, and zeros.
 fn one(x: u8) -> [u8; 8]
     ensures { λ r. ⌜ r ≡ x ∷ 0 ∷ 0 ∷ 0 ∷ 0 ∷ 0 ∷ 0 ∷ 0 ∷ [] ⌝ }
@@ -94,15 +88,15 @@ fn field_of(r: ResTableConfig, f: usize) -> [u8; 8]
     ensures { λ x. ⌜ take (widthOf f) x ≡ bytesOf r f ⌝ }
 {
     match f {
-        0 => word(r.size),
-        1 => word(r.imsi),
-        2 => word(r.locale),
-        3 => word(r.screen_type),
-        4 => word(r.generic_purpose_field),
-        5 => word(r.screen_size),
-        6 => word(r.version),
-        7 => word(r.screen_config),
-        8 => word(r.screen_size_dp),
+        0 => word_bytes(r.size),
+        1 => word_bytes(r.imsi),
+        2 => word_bytes(r.locale),
+        3 => word_bytes(r.screen_type),
+        4 => word_bytes(r.generic_purpose_field),
+        5 => word_bytes(r.screen_size),
+        6 => word_bytes(r.version),
+        7 => word_bytes(r.screen_config),
+        8 => word_bytes(r.screen_size_dp),
         9 => {
             let x = r.locale_script;
             four(x)
@@ -111,8 +105,8 @@ fn field_of(r: ResTableConfig, f: usize) -> [u8; 8]
             let x = r.locale_variant;
             x
         }
-        11 => word(r.screen_config_2),
-        12 => one(bit_of(r.locale_script_was_computed)),
+        11 => word_bytes(r.screen_config_2),
+        12 => one(r.locale_script_was_computed as u8),
         13 => {
             let x = r.locale_numbering_system;
             x
@@ -147,7 +141,7 @@ fn is_tidy(r: ResTableConfig, t: usize) -> bool
 // Puts each field that is read in t bytes into t zeros.
 fn lay(out: &mut [u8], r: ResTableConfig, t: usize)
     requires { ⌜ (t ≡ span r) × ((t ≤ length (now out)) × (take t (now out) ≡ replicate t 0)) ⌝ }
-    ensures { λ _. ⌜ now (out .exit) ≡ shown r ++ drop t (now (out .entry)) ⌝ }
+    ensures { λ _. ⌜ now (out .exit) ≡ bytesWritten r ++ drop t (now (out .entry)) ⌝ }
 {
     let mut f: usize = 0;
     while f < 15 {

@@ -4,7 +4,7 @@ use native.Mathlib.Omega.{arith}
 use lib.Seq.{length-take-le}
 use Rattle.buffer.proofs.Putting.{put-most}
 use Rattle.buffer.proofs.Writing.{copied}
-use Rattle.locale.proofs.Long.{text-long, sized}
+use Rattle.locale.proofs.Long.{text-long}
 use borrow.Author.Needs.{needs}
 use Rattle.locale.proofs.write_locale.Statement.{statement}
 use Rattle.locale.proofs.write_locale.Tie as tie
@@ -12,7 +12,7 @@ use Rattle.locale.proofs.write_locale.Tie as tie
 returns : tie.Need-returns
 returns c =
     let s = c .before .before .before .before .before .before .before .before .before in
-    let l = text-long (s .args .r) (sized (s .args .r) _ (s .good .1 .0)) in
+    let l = text-long (s .args .r) _ (s .good .1 .0) in
     c .before .before .write .ensures ∙ copied _ (omega (arith, l)) (c .before .before .before .before .before .before .put-said .ensures)
 
 pub write-locale-spec : {M : Type 1} → statement M

@@ -27,7 +27,7 @@ later-agree-spec =
     let p1 = p2 .before .before .before in
     pass-bytes (p1 .before .before .script .ensures) (p1 .before .script2 .ensures) _ _ (p1 .if1 .left)
     (pass-bytes (p2 .before .before .variant .ensures) (p2 .before .variant2 .ensures) _ _ (p2 .if2 .left) (pass (p3 .if3 .left)
-    (differ-as (c .before .before .bit-of .ensures) (c .before .bit-of2 .ensures) _ (c .if4 .taken)))))
+    (differ-as (c .before .before .computed .ensures) (c .before .computed2 .ensures) _ (c .if4 .taken)))))
     (λ c κs. tt) (λ c κs. tt)
     (λ c.
     let p4 = c .before .before .before in
@@ -36,7 +36,7 @@ later-agree-spec =
     let p1 = p2 .before .before .before in
     pass-bytes (p1 .before .before .script .ensures) (p1 .before .script2 .ensures) _ _ (p1 .if1 .left)
     (pass-bytes (p2 .before .before .variant .ensures) (p2 .before .variant2 .ensures) _ _ (p2 .if2 .left) (pass (p3 .if3 .left)
-    (pass-as (p4 .before .before .bit-of .ensures) (p4 .before .bit-of2 .ensures) (p4 .if4 .left)
+    (pass-as (p4 .before .before .computed .ensures) (p4 .before .computed2 .ensures) (p4 .if4 .left)
     (differ-bytes (c .before .before .numbering-system .ensures) (c .before .numbering-system2 .ensures) _ _ (c .if5 .taken))))))
     (λ c κs. tt) (λ c κs. tt)
     (λ c.
@@ -47,6 +47,6 @@ later-agree-spec =
     let p1 = p2 .before .before .before in
     pass-bytes (p1 .before .before .script .ensures) (p1 .before .script2 .ensures) _ _ (p1 .if1 .left)
     (pass-bytes (p2 .before .before .variant .ensures) (p2 .before .variant2 .ensures) _ _ (p2 .if2 .left) (pass (p3 .if3 .left)
-    (pass-as (p4 .before .before .bit-of .ensures) (p4 .before .bit-of2 .ensures) (p4 .if4 .left)
+    (pass-as (p4 .before .before .computed .ensures) (p4 .before .computed2 .ensures) (p4 .if4 .left)
     (pass-bytes (p5 .before .before .numbering-system .ensures) (p5 .before .numbering-system2 .ensures) _ _ (p5 .if5 .left)
     (last-agree (c .before .padding .ensures) (c .padding2 .ensures))))))))

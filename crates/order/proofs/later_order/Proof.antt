@@ -34,7 +34,7 @@ later-order-spec =
     let p1 = p2 .before .before .before in
     skip-bytes (p1 .before .before .script .ensures) (p1 .before .script2 .ensures) _ _ (p1 .if1 .left)
     (skip-bytes (p2 .before .before .variant .ensures) (p2 .before .variant2 .ensures) _ _ (p2 .if2 .left) (skip (p3 .if3 .left)
-    (stop-as (p4 .before .before .bit-of .ensures) (p4 .before .bit-of2 .ensures) _ (p4 .if4 .taken) (c .apart3 .ensures)))))
+    (stop-as (p4 .before .before .computed .ensures) (p4 .before .computed2 .ensures) _ (p4 .if4 .taken) (c .apart3 .ensures)))))
     (λ c κs. tt) (λ c κs. tt) (λ c κs. c .if5 .taken)
     (λ c.
     let p5 = c .before in
@@ -44,7 +44,7 @@ later-order-spec =
     let p1 = p2 .before .before .before in
     skip-bytes (p1 .before .before .script .ensures) (p1 .before .script2 .ensures) _ _ (p1 .if1 .left)
     (skip-bytes (p2 .before .before .variant .ensures) (p2 .before .variant2 .ensures) _ _ (p2 .if2 .left) (skip (p3 .if3 .left)
-    (skip-as (p4 .before .before .bit-of .ensures) (p4 .before .bit-of2 .ensures) (p4 .if4 .left)
+    (skip-as (p4 .before .before .computed .ensures) (p4 .before .computed2 .ensures) (p4 .if4 .left)
     (stop-bytes (p5 .before .before .numbering-system .ensures) (p5 .before .numbering-system2 .ensures) _ _ (p5 .if5 .taken) (c .apart4 .ensures))))))
     (λ c κs. tt) (λ c κs. tt) (λ c κs. c .if6 .taken)
     (λ c.
@@ -56,7 +56,7 @@ later-order-spec =
     let p1 = p2 .before .before .before in
     skip-bytes (p1 .before .before .script .ensures) (p1 .before .script2 .ensures) _ _ (p1 .if1 .left)
     (skip-bytes (p2 .before .before .variant .ensures) (p2 .before .variant2 .ensures) _ _ (p2 .if2 .left) (skip (p3 .if3 .left)
-    (skip-as (p4 .before .before .bit-of .ensures) (p4 .before .bit-of2 .ensures) (p4 .if4 .left)
+    (skip-as (p4 .before .before .computed .ensures) (p4 .before .computed2 .ensures) (p4 .if4 .left)
     (skip-bytes (p5 .before .before .numbering-system .ensures) (p5 .before .numbering-system2 .ensures) _ _ (p5 .if5 .left)
     (last-order (p6 .before .before .padding .ensures) (p6 .before .padding2 .ensures) (c .apart5 .ensures)))))))
     (λ c.
@@ -67,6 +67,6 @@ later-order-spec =
     let p1 = p2 .before .before .before in
     skip-bytes (p1 .before .before .script .ensures) (p1 .before .script2 .ensures) _ _ (p1 .if1 .left)
     (skip-bytes (p2 .before .before .variant .ensures) (p2 .before .variant2 .ensures) _ _ (p2 .if2 .left) (skip (p3 .if3 .left)
-    (skip-as (p4 .before .before .bit-of .ensures) (p4 .before .bit-of2 .ensures) (p4 .if4 .left)
+    (skip-as (p4 .before .before .computed .ensures) (p4 .before .computed2 .ensures) (p4 .if4 .left)
     (skip-bytes (p5 .before .before .numbering-system .ensures) (p5 .before .numbering-system2 .ensures) _ _ (p5 .if5 .left)
     (last-order (c .before .before .padding .ensures) (c .before .padding2 .ensures) (equal-is _ _ (c .if6 .left)))))))))

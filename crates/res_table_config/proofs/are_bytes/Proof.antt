@@ -34,8 +34,9 @@ use denote.Triple.Entry.{onEntry}
 use denote.Triple.Spec.{Meets, tripleOf}
 use denote.Triple.Table.{entered}
 use denote.Triple.Walked.{says, Stays, stay-none-slice, walkOf, Walks, ends-at, walked, goes-none-slice, walk-meets}
+use Rattle.laws.proofs.Below.{one-more}
 use Rattle.record.specs.Table.{Bytes}
-use Rattle.res_table_config.proofs.Bytes.{one-more, placed}
+use Rattle.record.proofs.Bytes.{placed}
 use Rattle.res_table_config.proofs.are_bytes.Key.{name as #res_table_config·are-bytes}
 use Rattle.res_table_config.proofs.are_bytes as are-bytes
 use Rattle.res_table_config.proofs.are_bytes.Statement as stated

@@ -6,7 +6,7 @@ use borrow.Author.Needs.{needs}
 use lib.Dec.{leb}
 use lib.ListN.{length, drop, length-drop}
 use Rattle.subtag.specs.Subtag.{replaced}
-use Rattle.subtag.proofs.Laws.{rest-is}
+use Rattle.laws.proofs.Lists.{rest-is}
 use Rattle.subtag.proofs.Room.{front-in, room-less, room-none, room-end}
 use Rattle.subtag.proofs.fits.Statement.{statement}
 use Rattle.subtag.proofs.fits.Tie as tie
@@ -30,7 +30,7 @@ fits-spec =
     Inv-loop μ-loop
     (λ c. (search needs, refl))
     (λ c. omega arith) (λ c. omega arith) (λ c. omega arith)
-    (λ c κs. let s = c .before .before .before .before .args .src .now in rw (rest-is (c .before .before .loop .i) s (omega arith)) (omega (arith, length-drop (c .before .before .loop .i) s)))
+    (λ c κs. let s = c .before .before .before .before .args .src .now in rw (rest-is s (c .before .before .loop .i)) (omega (arith, length-drop (c .before .before .loop .i) s)))
     (λ c. sym (c .before .before .before .before .before .loop .inv .1 ∙ room-none (c .before .before .before .before .before .before .before .args .src .now) (omega arith) (c .before .before .measure .ensures) _ (c .if1 .taken)))
     (λ c. omega (arith, did c))
     (λ c. omega (arith, did c))

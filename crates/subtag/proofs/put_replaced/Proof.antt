@@ -4,7 +4,8 @@ use mathlib.Core.Path.{_≡_}
 use native.Mathlib.Omega.{arith}
 use borrow.Author.Needs.{needs}
 use lib.ListN.{length, length-drop}
-use Rattle.subtag.proofs.Laws.{rest-is, Completes, completes-none, completes-more, completes-all, moves}
+use Rattle.laws.proofs.Lists.{rest-is}
+use Rattle.subtag.proofs.Laws.{Completes, completes-none, completes-more, completes-all, moves}
 use Rattle.subtag.proofs.put_replaced.Statement.{statement}
 use Rattle.subtag.proofs.put_replaced.Tie as tie
 
@@ -26,7 +27,7 @@ put-replaced-spec =
     Inv-loop μ-loop
     (λ c. (search needs, search needs, completes-none _))
     (λ c. omega arith) (λ c. omega arith) (λ c. omega arith)
-    (λ c κs. let s = c .before .before .before .before .before .before .args .src .now in rw (rest-is (c .before .before .before .loop .i) s (omega arith)) (omega (arith, length-drop (c .before .before .before .loop .i) s)))
+    (λ c κs. let s = c .before .before .before .before .before .before .args .src .now in rw (rest-is s (c .before .before .before .loop .i)) (omega (arith, length-drop (c .before .before .before .loop .i) s)))
     (λ c. omega (arith, did c))
     (λ c. omega (arith, did c))
     (λ c. (did c .1, omega arith, completes-more (c .before .before .before .before .before .before .before .before .before .before .args .src .now) (omega arith) (c .before .before .before .before .before .before .before .loop .inv .2) (c .before .before .before .put-front .ensures)))

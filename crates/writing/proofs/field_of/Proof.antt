@@ -5,54 +5,56 @@ use Prim.Native.Nat.{ℕ}
 use native.Mathlib.Omega.{arith}
 use lib.ListN.{length, take}
 use lib.Seq.{take-all}
+use Rattle.laws.proofs.Arms.{last-one}
+use Rattle.laws.proofs.Lists.{elements}
 use Rattle.writing.specs.Writing.{bytesOf}
-use Rattle.writing.proofs.Arms.{elements, arm, last-one}
-use Rattle.writing.proofs.Shapes.{shaped}
+use Rattle.writing.proofs.Arms.{arm}
+use Rattle.record.proofs.Shapes.{shaped}
 use borrow.Author.Needs.{needs}
 use Rattle.writing.proofs.field_of.Statement.{statement}
 use Rattle.writing.proofs.field_of.Tie as tie
 
 returns : tie.Need-returns
 unfolding bytesOf
-returns c = arm (c .before .before .args .r) 0 (c .before .before .args .f) _ (omega arith) (ap (take 4) (c .word .ensures))
+returns c = arm (c .before .before .args .r) 0 (c .before .before .args .f) _ (omega arith) (ap (take 4) (c .word-bytes .ensures))
 
 returns-2 : tie.Need-returns-2
 unfolding bytesOf
-returns-2 c = arm (c .before .before .args .r) 1 (c .before .before .args .f) _ (omega arith) (ap (take 4) (c .word2 .ensures))
+returns-2 c = arm (c .before .before .args .r) 1 (c .before .before .args .f) _ (omega arith) (ap (take 4) (c .word-bytes2 .ensures))
 
 returns-3 : tie.Need-returns-3
 unfolding bytesOf
-returns-3 c = arm (c .before .before .args .r) 2 (c .before .before .args .f) _ (omega arith) (ap (take 4) (c .word3 .ensures))
+returns-3 c = arm (c .before .before .args .r) 2 (c .before .before .args .f) _ (omega arith) (ap (take 4) (c .word-bytes3 .ensures))
 
 returns-4 : tie.Need-returns-4
 unfolding bytesOf
-returns-4 c = arm (c .before .before .args .r) 3 (c .before .before .args .f) _ (omega arith) (ap (take 4) (c .word4 .ensures))
+returns-4 c = arm (c .before .before .args .r) 3 (c .before .before .args .f) _ (omega arith) (ap (take 4) (c .word-bytes4 .ensures))
 
 returns-5 : tie.Need-returns-5
 unfolding bytesOf
-returns-5 c = arm (c .before .before .args .r) 4 (c .before .before .args .f) _ (omega arith) (ap (take 4) (c .word5 .ensures))
+returns-5 c = arm (c .before .before .args .r) 4 (c .before .before .args .f) _ (omega arith) (ap (take 4) (c .word-bytes5 .ensures))
 
 returns-6 : tie.Need-returns-6
 unfolding bytesOf
-returns-6 c = arm (c .before .before .args .r) 5 (c .before .before .args .f) _ (omega arith) (ap (take 4) (c .word6 .ensures))
+returns-6 c = arm (c .before .before .args .r) 5 (c .before .before .args .f) _ (omega arith) (ap (take 4) (c .word-bytes6 .ensures))
 
 returns-7 : tie.Need-returns-7
 unfolding bytesOf
-returns-7 c = arm (c .before .before .args .r) 6 (c .before .before .args .f) _ (omega arith) (ap (take 4) (c .word7 .ensures))
+returns-7 c = arm (c .before .before .args .r) 6 (c .before .before .args .f) _ (omega arith) (ap (take 4) (c .word-bytes7 .ensures))
 
 returns-8 : tie.Need-returns-8
 unfolding bytesOf
-returns-8 c = arm (c .before .before .args .r) 7 (c .before .before .args .f) _ (omega arith) (ap (take 4) (c .word8 .ensures))
+returns-8 c = arm (c .before .before .args .r) 7 (c .before .before .args .f) _ (omega arith) (ap (take 4) (c .word-bytes8 .ensures))
 
 returns-9 : tie.Need-returns-9
 unfolding bytesOf
-returns-9 c = arm (c .before .before .args .r) 8 (c .before .before .args .f) _ (omega arith) (ap (take 4) (c .word9 .ensures))
+returns-9 c = arm (c .before .before .args .r) 8 (c .before .before .args .f) _ (omega arith) (ap (take 4) (c .word-bytes9 .ensures))
 
 returns-10 : tie.Need-returns-10
 unfolding bytesOf
 returns-10 c =
     let s = c .before .before .before in
-    arm (s .args .r) 9 (s .args .f) (c .four .result) (omega arith) (ap (take 4) (c .four .ensures) ∙ elements 3 (s .args .r .«locale_script») (search needs))
+    arm (s .args .r) 9 (s .args .f) (c .four .result) (omega arith) (ap (take 4) (c .four .ensures) ∙ elements 4 (s .args .r .«locale_script») (search needs))
 
 returns-11 : tie.Need-returns-11
 unfolding bytesOf
@@ -63,13 +65,13 @@ returns-11 c =
 
 returns-12 : tie.Need-returns-12
 unfolding bytesOf
-returns-12 c = arm (c .before .before .args .r) 11 (c .before .before .args .f) _ (omega arith) (ap (take 4) (c .word10 .ensures))
+returns-12 c = arm (c .before .before .args .r) 11 (c .before .before .args .f) _ (omega arith) (ap (take 4) (c .word-bytes10 .ensures))
 
 returns-13 : tie.Need-returns-13
 unfolding bytesOf
 returns-13 c =
     let s = c .before .before .before in
-    arm (s .args .r) 12 (s .args .f) (c .one .result) (omega arith) (ap (take 1) (c .one .ensures) ∙ ap (λ (b : ℕ). b ∷ []) (c .before .bit-of .ensures))
+    arm (s .args .r) 12 (s .args .f) (c .one .result) (omega arith) (ap (take 1) (c .one .ensures))
 
 returns-14 : tie.Need-returns-14
 unfolding bytesOf
@@ -82,7 +84,7 @@ returns-15 : tie.Need-returns-15
 unfolding bytesOf
 returns-15 c =
     let s = c .before .before .before in
-    arm (s .args .r) 14 (s .args .f) (c .three .result) (last-one 14 (s .args .f) (c .before .before .match .rest) (s .pre)) (ap (take 3) (c .three .ensures) ∙ elements 2 (s .args .r .«end_padding») (shaped (s .args .r) _ (s .good .0) .padding))
+    arm (s .args .r) 14 (s .args .f) (c .three .result) (last-one 14 (s .args .f) (c .before .before .match .rest) (s .pre)) (ap (take 3) (c .three .ensures) ∙ elements 3 (s .args .r .«end_padding») (shaped (s .args .r) _ (s .good .0) .padding))
 
 pub field-of-spec : {M : Type 1} → statement M
 field-of-spec =
@@ -99,7 +101,7 @@ field-of-spec =
     (λ c κs. search needs)
     (λ c κs. search needs)
     (λ c κs. search needs)
-    (λ c κs. search needs)
+    (λ c. search needs)
     (λ c κs. search needs)
     (λ c κs. search needs)
     returns

@@ -6,14 +6,15 @@ use Prim.Native.Nat.{ℕ, _-_, _≤_, _<_}
 use native.Mathlib.Omega.{arith}
 use borrow.Author.Needs.{needs}
 use Rattle.reading.proofs.Limits.{start-end}
-use Rattle.writing.specs.Writing.{each, span, keeps, tidy}
-use Rattle.writing.proofs.Below.{each-none, each-more, each-stop}
+use Rattle.laws.specs.Below.{eachBelow}
+use Rattle.laws.proofs.Below.{each-none, each-more, each-stop}
+use Rattle.writing.specs.Writing.{span, keeps, tidy}
 use Rattle.writing.proofs.Held.{held-is, zero-is, neither-is}
 use Rattle.writing.proofs.is_tidy.Statement.{statement}
 use Rattle.writing.proofs.is_tidy.Tie as tie
 
 abbrev Inv-loop : tie.InvT-loop
-Inv-loop r t f₀ f = (f ≤ 15) × (t ≡ span r) × (each f (keeps r) ≡ true)
+Inv-loop r t f₀ f = (f ≤ 15) × (t ≡ span r) × (eachBelow f (keeps r) ≡ true)
 
 abbrev μ-loop : tie.MeasureT-loop
 μ-loop r t f₀ f = 15 - f
@@ -57,7 +58,7 @@ returns-2 c =
     let r = c .before .before .args .r in
     let l = c .before .loop in
     let e : l .f ≡ 15 = omega arith in
-    sym (ap (λ (n : ℕ). each n (keeps r)) (sym e) ∙ l .inv .2)
+    sym (ap (λ (n : ℕ). eachBelow n (keeps r)) (sym e) ∙ l .inv .2)
 
 pub is-tidy-spec : {M : Type 1} → statement M
 is-tidy-spec =

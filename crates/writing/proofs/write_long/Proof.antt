@@ -6,7 +6,7 @@ use lib.ListN.{length, take, drop, replicate, length-replicate}
 use lib.Seq.{take-at}
 use denote.Ref.{now}
 use borrow.Author.Needs.{needs}
-use Rattle.writing.proofs.Shapes.{shaped}
+use Rattle.record.proofs.Shapes.{shaped}
 use Rattle.writing.proofs.Laid.{cleared-length}
 use Rattle.writing.proofs.Answers.{short-is, laid-is, unread-is}
 use Rattle.writing.proofs.write_long.Statement.{statement}

@@ -2,7 +2,7 @@
 use mathlib.Core.Path.{sym}
 use lib.ListN.{List·getD-eq-default}
 use Rattle.flags.specs.Flags.{flags}
-use Rattle.answers.proofs.Rest.{past}
+use Rattle.laws.proofs.Arms.{past}
 use Rattle.flags.proofs.ResTableConfigFlags.nth.Statement.{statement}
 use Rattle.flags.proofs.ResTableConfigFlags.nth.Tie as tie
 

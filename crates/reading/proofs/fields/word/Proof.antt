@@ -1,7 +1,7 @@
 -- A word is the number of its four bytes. Assumes nothing.
 use native.Mathlib.Omega.{arith}
 use denote.Ref.{now}
-use Rattle.reading.proofs.Parts.{row}
+use Rattle.laws.proofs.Lists.{row}
 use borrow.Author.Needs.{needs}
 use Rattle.reading.proofs.fields.word.Statement.{statement}
 use Rattle.reading.proofs.fields.word.Tie as tie

@@ -1,7 +1,7 @@
 -- `Age::nth` answers each row of the twelve, and 0 past them. Assumes nothing.
 use mathlib.Core.Path.{sym}
 use lib.ListN.{List·getD-eq-default}
-use Rattle.answers.proofs.Rest.{past}
+use Rattle.laws.proofs.Arms.{past}
 use Rattle.record.specs.Ages.{ages}
 use Rattle.record.proofs.ages.Age.nth.Statement.{statement}
 use Rattle.record.proofs.ages.Age.nth.Tie as tie

@@ -1,5 +1,5 @@
 -- What the last arm of a `match` over numbers knows of its number. Assumes nothing.
-use Prim.Native.Nat.{ℕ, zero, suc, _≤_}
+use Prim.Native.Nat.{ℕ, zero, suc, _≤_, _<_}
 use mathlib.Core.Path.{_≡_}
 use mathlib.Core.List.{List, [], _∷_}
 use native.Mathlib.Omega.{arith}
@@ -27,3 +27,7 @@ Past (suc k) n = Past k n × (n ≡ k → ⊥)
 pub past : (k n : ℕ) → Past k n → k ≤ n
 past zero n p = omega arith
 past (suc k) n p = let h = past k n (p .0) in let g : n ≡ k → ⊥ = p .1 in omega arith
+
+-- and k itself, where it is at most k
+pub last-one : (k n : ℕ) → Past k n → n < suc k → n ≡ k
+last-one k n p h = let g = past k n p in omega arith

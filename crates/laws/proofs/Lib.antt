@@ -1,0 +1,5 @@
+pub mod Tests
+pub mod Choice
+pub mod Below
+pub mod Arms
+pub mod Lists

@@ -1,0 +1,13 @@
+-- What holds at some, and at each, of the numbers below a bound. Assumes nothing.
+use Prim.Native.Nat.{ℕ, zero, suc}
+use mathlib.Core.Bool.{Bool, true, false, _&&_, _||_}
+
+-- p holds at some of the numbers below n
+abbrev pub someBelow : ℕ → (ℕ → Bool) → Bool
+someBelow zero p = false
+someBelow (suc n) p = p n || someBelow n p
+
+-- p holds at each of the numbers below n
+abbrev pub eachBelow : ℕ → (ℕ → Bool) → Bool
+eachBelow zero p = true
+eachBelow (suc n) p = p n && eachBelow n p
