@@ -1,0 +1,410 @@
+#!/usr/bin/env python3
+"""named.py: names the places of a function that its proof cites.
+
+An answer in a `Proof.antt` gets `c`, what is known at one place of the function's code; `c .before` is the place before it, and so
+back to the start. A chain of many `.before` says nothing to a reader, and a call that is put between two places breaks every chain
+across it. This script gives each place that an answer cites a name, once, from the nearest to the farthest:
+
+    let told = c .before .before in
+    let parse = told .before in
+    first-refused (parse .parse .ensures) (told .told .ensures)
+
+so that a change of the code moves one line of each answer. A place is named after what stands there: a call, a branch (`if1`), an arm, and
+`start` for the function's own arguments. No name is more than three `.before` from the one in front of it; where the places that are cited
+lie farther apart, one between them gets a name too. Answers whose chains are three or shorter stay as they are.
+
+    tools/named.py CRATE FN..     rewrites crates/CRATE/proofs/**/FN/Proof.antt (FN may be a path below proofs/)
+    tools/named.py CRATE          rewrites every one with a chain of more than three, or a line of more than 150 characters
+    --no-gen                      takes target/gen-CRATE as it is; else `rt dev CRATE --generated` writes it first
+
+It also breaks lines at 140 characters, and lists the terms that still stand twice in an answer: those want a `let`, or a law. Run `rt fmt` and
+`rt check CRATE` after it.
+"""
+import glob
+import os
+import re
+import subprocess
+import sys
+
+MOST = 3        # the longest chain that stays
+WIDE = 140      # the longest line that is written
+TOKEN = re.compile(r'\s+|[()\[\]{},;]|"[^"]*"|[^\s()\[\]{},;]+')
+OPEN, SHUT = '([{', ')]}'
+# words of the language and its tactics: a place that is called so gets another name
+TAKEN = set('data record where use mod pub as open module let in do elim with rw simp search cc omega grw cap now length refl sym ap'.split())
+LOOSE = {'∙', '∷', '++', '×', '→', '≡', '⊎', ',', '|', '↦', '≤', '<', '+'}
+
+
+def generated(crate):
+    """The records that Rattle generated for CRATE's functions: {function: [(need, [the fields of each place, from the nearest])]}."""
+    base = f'target/gen-{crate}/Rattle.{crate}.proofs/proofs/'
+    found = {}
+    for path in glob.glob(base + '**/Lts*.antt', recursive=True):
+        text = open(path).read()
+        records, current = {}, None
+        for line in text.split('\n'):
+            m = re.match(r'\s+pub record (\S+)\s', line)
+            if m:
+                current = records.setdefault(m.group(1), [])
+                continue
+            m = re.match(r'\s+pub (\S+) :\s*(.*)', line)
+            if m and current is not None:
+                current.append((m.group(1), m.group(2)))
+
+        def places(name):
+            out = []
+            while name in records:
+                fields = records[name]
+                out.append([f for f, _ in fields if f != 'before'])
+                back = [t for f, t in fields if f == 'before']
+                if not back:
+                    break
+                name = back[0].split()[0].strip('()')
+            return out
+        needs = [(m.group(1), places(m.group(2))) for m in re.finditer(r'(Need-\S+) =\s*\(c : ([^)\s]+)', text)]
+        found[os.path.dirname(path)[len(base):].lstrip('+')] = needs
+    return found
+
+
+def tokens(text):
+    return [' ' if t.isspace() else t for t in TOKEN.findall(text.strip())]
+
+
+def flat(text):
+    """One line, with no blank inside a bracket's edge and no comma before a closing one."""
+    t = ''.join(tokens(text))
+    t = re.sub(r'([(\[{]) ', r'\1', t)
+    t = re.sub(r',? ([)\]}])', r'\1', t)
+    return t
+
+
+def is_name(tok):
+    return tok not in ' ,;' and tok not in OPEN and tok not in SHUT and not tok.startswith('.')
+
+
+def leading_lets(toks):
+    """Splits `let x : T = e in ..` into [(x, T or None, e)] and the rest."""
+    lets = []
+    while toks and toks[0] == 'let':
+        depth, inner, eq, end = 0, 0, None, None
+        for i, t in enumerate(toks[1:], 1):
+            if t in OPEN:
+                depth += 1
+            elif t in SHUT:
+                depth -= 1
+            elif t == 'let' and depth == 0:
+                inner += 1
+            elif t == '=' and depth == 0 and eq is None:
+                eq = i
+            elif t == 'in' and depth == 0:
+                if inner == 0:
+                    end = i
+                    break
+                inner -= 1
+        if end is None or eq is None:
+            break
+        head = ''.join(toks[1:eq]).strip()
+        name, _, typ = head.partition(' : ')
+        lets.append((name, typ or None, [t for t in strip(toks[eq + 1:end])]))
+        toks = strip(toks[end + 1:])
+    return lets, toks
+
+
+def strip(toks):
+    while toks and toks[0] == ' ':
+        toks = toks[1:]
+    while toks and toks[-1] == ' ':
+        toks = toks[:-1]
+    return toks
+
+
+class Place(int):
+    """A place in a token list: how far behind `c` it is."""
+
+
+def resolve(toks, known):
+    """Turns each known variable with the `.before`s behind it into a Place."""
+    out, i = [], 0
+    while i < len(toks):
+        t = toks[i]
+        if t in known and not (out and isinstance(out[-1], str) and out[-1] == 'λ'):
+            k, j = known[t], i + 1
+            while toks[j:j + 2] == [' ', '.before']:
+                k, j = k + 1, j + 2
+            out.append(Place(k))
+            i = j
+        else:
+            out.append(t)
+            i += 1
+    return out
+
+
+def longest(text):
+    return max((m.group(0).count('.before') for m in re.finditer(r'(?:\s*\.before)+', text)), default=0)
+
+
+def cited(toks):
+    """{place: the fields that are cited there}"""
+    at = {}
+    for i, t in enumerate(toks):
+        if isinstance(t, Place):
+            field = toks[i + 2][1:] if i + 2 < len(toks) and toks[i + 1] == ' ' and str(toks[i + 2]).startswith('.') else None
+            at.setdefault(int(t), []).append(field)
+    return at
+
+
+def name_of(fields, asked, used):
+    """A name for the place whose record has these fields, of which those asked for are cited."""
+    start = {'args', 'pre', 'good', 'blocks'}
+    if (fields and 'args' in fields) or any(f in start for f in asked if f):
+        name = 'start'
+    else:
+        pick = [f for f in asked if f and (not fields or f in fields)]
+        name = pick[0] if pick else (fields[0] if fields else None)
+        if name is None:
+            raise SystemExit('named.py: a place has no name: run without --no-gen')
+    name = name.replace('«', '').replace('»', '').replace('_', '-')
+    while name in used or name in TAKEN:
+        name += '-at'
+    return name
+
+
+def stepping(places, chain):
+    """The places, and those between them that need a name so that no step is more than MOST."""
+    out, at = [], 0
+    for p in sorted(places):
+        while p - at > MOST:
+            best = None
+            for q in range(at + MOST, at, -1):
+                fields = chain[q] if chain and q < len(chain) else []
+                plain = not fields or 'known' in fields[0] or 'told' in fields[0]
+                score = (plain, -(p - q <= MOST), -q)
+                if best is None or score < best[0]:
+                    best = (score, q)
+            at = best[1]
+            out.append(at)
+        if p != at:
+            out.append(p)
+            at = p
+    return out
+
+
+def spaces(text):
+    """The spaces of a one-line term where a line may end: [(index, depth)]; the looser, the smaller the depth."""
+    out, depth, i = [], 0, 0
+    toks = TOKEN.findall(text)
+    pos = 0
+    for n, t in enumerate(toks):
+        if t in OPEN:
+            depth += 1
+        elif t in SHUT:
+            depth -= 1
+        elif t.isspace():
+            before, after = toks[n - 1], toks[n + 1] if n + 1 < len(toks) else ''
+            bad = after.startswith('.') or before == 'λ' or after in ('=', ':', 'in') or before in ('let', '=', ':', '|')
+            bad = bad or before in LOOSE - {','} or bool(re.match(r'[a-zκ₀-₉]+\.$', after) and before != ' ' and 'λ' in toks[max(0, n - 6):n])
+            if not bad:
+                loose = depth - (0.5 if after in LOOSE or before in (',', 'in', ';') or before.endswith('.') else 0)
+                out.append((pos, loose))
+        pos += len(t)
+    return out
+
+
+def wrapped(text, indent, first=0):
+    """Breaks a one-line term; `first` is what already stands on its first line."""
+    lines, room = [], WIDE - indent - first
+    while len(text) > room:
+        options = [(d, -p) for p, d in spaces(text) if p <= room and p > min(40, room // 3)]
+        if not options:
+            options = [(0, p) for p, d in spaces(text) if p > 0][:1]
+            if not options:
+                break
+            cut = options[0][1]
+        else:
+            cut = -min(options)[1]
+        lines.append(text[:cut].rstrip())
+        text = text[cut:].lstrip()
+        room = WIDE - indent
+    return lines + [text]
+
+
+def terms_twice(text):
+    """The bracketed terms and paths that stand more than once, longest first, without those inside another."""
+    seen = {}
+    stack = []
+    for i, ch in enumerate(text):
+        if ch == '(':
+            stack.append(i)
+        elif ch == ')' and stack:
+            j = stack.pop()
+            seen.setdefault(text[j:i + 1], 0)
+            seen[text[j:i + 1]] += 1
+    twice = [t for t, n in seen.items() if n > 1 and len(t) > 24 and '.' in t and 'search' not in t]
+    return [t for t in sorted(twice, key=len, reverse=True) if not any(t != u and t in u for u in twice)]
+
+
+def body_named(body, variables, chain, where):
+    """The lines of an answer, its places named: (lets, the term). None where nothing changes."""
+    toks = tokens(flat(body))
+    lets, rest = leading_lets(toks)
+    known, kept = {variables[0]: 0}, []
+    for name, typ, value in lets:
+        value = resolve(value, known)
+        if len(value) == 1 and isinstance(value[0], Place):
+            known[name] = int(value[0])
+            continue
+        if name in known:
+            del known[name]
+        kept.append((name, resolve(tokens(typ), known) if typ else None, value))
+    rest = resolve(rest, known)
+    everything = [t for n, ty, v in kept for t in (ty or []) + [' '] + v] + [' '] + rest
+    at = cited(everything)
+    places = stepping([p for p in at if p > 0], chain)
+    used = {t for t in everything if not isinstance(t, Place) and is_name(t)} | {n for n, _, _ in kept} | set(variables)
+    names = {0: variables[0]}
+    lines, here = [], 0
+    for p in places:
+        fields = chain[p] if chain and p < len(chain) else []
+        for f in at.get(p, []):
+            if f and fields and f not in fields:
+                raise SystemExit(f'named.py: {where}: place {p} has {fields}, and {f} is cited')
+        names[p] = name_of(fields, at.get(p, []), used)
+        used.add(names[p])
+        lines.append(f'let {names[p]} = {names[here]}{" .before" * (p - here)} in')
+        here = p
+
+    def text(ts):
+        return ''.join(names[int(t)] if isinstance(t, Place) else t for t in ts)
+    for n, ty, v in kept:
+        lines.append(f'let {n}{" : " + text(ty) if ty else ""} = {text(v)} in')
+    return lines, text(rest)
+
+
+def laid(lets, term, indent, first):
+    """Lets a line each, then the term; all of it on one line where it is short."""
+    one = ' '.join(lets + [term])
+    if len(lets) <= 1 and first + len(one) + indent <= 130:
+        return [one]
+    out = []
+    for l in lets:
+        out += wrapped(l, indent)
+    return out + wrapped(term, indent)
+
+
+def spec_arguments(text):
+    """The arguments of `tie.spec`: [(start, end)] in the text."""
+    m = re.search(r'(?:tie\.spec|lts\.spec)\b', text)
+    out, i, depth, begin = [], m.end(), 0, None
+    while i < len(text):
+        ch = text[i]
+        if depth == 0 and ch in ' \n)':
+            if begin is not None:
+                out.append((begin, i))
+                begin = None
+            if ch == ')':
+                break
+        elif begin is None:
+            begin = i
+        if ch in OPEN:
+            depth += 1
+        elif ch in SHUT and depth:
+            depth -= 1
+        i += 1
+    else:
+        if begin is not None:
+            out.append((begin, len(text)))
+    return out
+
+
+def too_long(text):
+    return longest(text) > MOST or max(map(len, text.split('\n'))) > 150
+
+
+def clause(block, needs, where):
+    """Rewrites an answer that has a name of its own."""
+    m = re.search(r'(?m)^(\S+) ((?:t )?c(?: κs)?) =[ \n]', block)
+    need = re.search(r'Need-[^\s)]+', block[:m.start()])
+    chain = dict(needs).get(need.group(0)) if need else None
+    body = block[m.end():]
+    if not too_long(body) or '--' in body or re.search(r'(?m)\bwhere$', body):
+        return block
+    name = where + ' ' + m.group(1)
+    lets, term = body_named(body, m.group(2).split()[-2:] if ' κs' in m.group(2) else ['c'], chain, name)
+    report(name, lets, term)
+    lines = laid(lets, term, 4, len(m.group(0)))
+    head = block[:m.end()].rstrip()
+    if len(lines) == 1 and len(m.group(0)) + len(lines[0]) <= 130:
+        return head + ' ' + lines[0]
+    return head + '\n' + '\n'.join('    ' + l for l in lines)
+
+
+def spec(block, needs, where):
+    """Rewrites the answers that stand in the call of `tie.spec`."""
+    args = spec_arguments(block)
+    answers = [a for a in args if not re.match(r'(Inv|μ)-', block[a[0]:a[1]])]
+    chains = [c for _, c in needs] if len(needs) == len(answers) else None
+    if needs and chains is None:
+        print(f'{where}: {len(needs)} needs, {len(answers)} answers: named by what they cite')
+    out, last = '', 0
+    for n, (a, e) in enumerate(answers):
+        arg = block[a:e]
+        m = re.match(r'\(λ (c(?: κs)?)\.\s', arg)
+        if not m or not too_long(arg) or '--' in arg:
+            continue
+        name = f'{where} answer {n + 1}'
+        lets, term = body_named(arg[m.end():-1], m.group(1).split(), chains[n] if chains else None, name)
+        report(name, lets, term)
+        lines = laid(lets, term, 4, len(m.group(0)) + 1)
+        head = f'(λ {m.group(1)}.'
+        new = head + ' ' + lines[0] + ')' if len(lines) == 1 and len(head) + len(lines[0]) + 6 <= 136 else head + '\n' + '\n'.join('    ' + l for l in lines) + ')'
+        before = block[last:a].rstrip(' ')
+        out += (before if before.endswith('\n') else before + '\n') + '    ' + new
+        last = e
+        tail = re.match(r' +(?=\S)', block[e:])
+        if tail and block[e] == ' ':
+            out += '\n    '
+            last = e + tail.end()
+    return out + block[last:]
+
+
+def report(where, lets, term):
+    for t in terms_twice(' '.join(lets + [term])):
+        print(f'{where}: twice: {t[:160]}')
+
+
+def rewrite(path, needs):
+    text = open(path).read()
+    where = path.split('/proofs/', 1)[1].rsplit('/', 1)[0]
+    blocks = re.split(r'(\n\n+)', text)
+    for i, b in enumerate(blocks):
+        if re.search(r'(?:tie\.spec|lts\.spec)\b', b):
+            blocks[i] = spec(b, needs, where)
+        elif re.search(r'(?m)^(\S+) ((?:t )?c(?: κs)?) =[ \n]', b):
+            blocks[i] = clause(b, needs, where)
+    new = ''.join(blocks)
+    if new != text:
+        open(path, 'w').write(new if new.endswith('\n') else new + '\n')
+    left = longest(new)
+    wide = max(map(len, new.split('\n')))
+    print(f'{where}: {"written" if new != text else "as it was"}; longest chain {left}, longest line {wide}')
+
+
+def main():
+    words = [w for w in sys.argv[1:] if not w.startswith('-')]
+    if not words:
+        raise SystemExit(__doc__)
+    crate, functions = words[0], words[1:]
+    if '--no-gen' not in sys.argv:
+        subprocess.run(['rt', 'dev', crate, '--generated', os.path.abspath(f'target/gen-{crate}')], capture_output=True)
+    known = generated(crate)
+    base = f'crates/{crate}/proofs/'
+    for path in sorted(glob.glob(base + '**/Proof.antt', recursive=True)):
+        fn = os.path.dirname(path)[len(base):]
+        if functions and not any(fn == f or fn.endswith('/' + f) for f in functions):
+            continue
+        if not functions and not too_long(open(path).read()):
+            continue
+        rewrite(path, known.get(fn.lstrip('+'), []))
+
+
+main()
