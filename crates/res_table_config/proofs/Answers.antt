@@ -66,5 +66,12 @@ module _ (a b : List ℕ) (x : Parsed) (t : Told) (e : parsedOutcome x ≡ parse
     -- then the order of both
     pub both-read : u .number ≡ 0 → (o : Ordering) (r : ℕ) → o ≡ orderOf (x .«record») (y .«record») → r ≡ orderingTells o → answerTells r ≡ orderTold a b
     both-read w o r p q =
-        rw (q, whole-took a (λ why. refusal (numberOf why)) (ifWhole b (λ why. refusal (numberOf why)) _) (whole a x t e f z), whole-took b (λ why. refusal (numberOf why)) (success (orderingTells (orderOf (plain a) (plain b)))) (whole b y u g h w), ← read-plain a x t e f z, ← read-plain b y u g h w, ← p)
+        rw (
+          q,
+          whole-took a (λ why. refusal (numberOf why)) (ifWhole b (λ why. refusal (numberOf why)) _) (whole a x t e f z),
+          whole-took b (λ why. refusal (numberOf why)) (success (orderingTells (orderOf (plain a) (plain b)))) (whole b y u g h w),
+          ← read-plain a x t e f z,
+          ← read-plain b y u g h w,
+          ← p,
+        )
         (amount-tells (orderingTells o) (ordering-most o))

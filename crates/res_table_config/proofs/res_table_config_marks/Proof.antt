@@ -11,6 +11,14 @@ res-table-config-marks-spec =
     tie.close
     (tie.spec
     (λ c κs. tt) (λ c κs. tt)
-    (λ c κs. written-fits (c .before .before .before .marks .result) _ _ _ (c .before .before .before .marks .ensures) (c .told .ensures) (marks-small (c .before .before .before .before .before .before .before .args .age) (now (c .before .before .before .before .before .before .before .args .bytes)) (now (c .before .before .before .before .before .before .before .args .out))))
+    (λ c κs.
+    let marks = c .before .before .before in
+    let marks-arg = marks .before in
+    let start = marks-arg .before .before .before in
+    written-fits (marks .marks .result) _ _ _ (marks .marks .ensures) (c .told .ensures)
+    (marks-small (start .args .age) (now (start .args .bytes)) (now (start .args .out))))
     (λ c. search needs)
-    (λ c. written-told (c .before .before .before .before .marks .result) _ _ _ (c .before .before .before .before .marks .ensures) (c .before .told .ensures) _ (c .packed .ensures)))
+    (λ c.
+    let told = c .before in
+    let marks = told .before .before .before in
+    written-told (marks .marks .result) _ _ _ (marks .marks .ensures) (told .told .ensures) _ (c .packed .ensures)))

@@ -11,5 +11,9 @@ res-table-config-take-spec =
     tie.close
     (tie.spec
     (λ c κs. tt) (λ c κs. tt) (λ c κs. tt)
-    (λ c κs. fits _ _ (c .told .ensures ∙ c .before .amount .ensures) (take-small (now (c .before .before .before .before .args .bytes)) (c .before .before .are-bytes .ensures)))
+    (λ c κs.
+    let amount = c .before in
+    let are-bytes = amount .before in
+    let start = are-bytes .before .before in
+    fits _ _ (c .told .ensures ∙ amount .amount .ensures) (take-small (now (start .args .bytes)) (are-bytes .are-bytes .ensures)))
     (λ c. c .packed .ensures ∙ c .before .told .ensures ∙ c .before .before .amount .ensures))
