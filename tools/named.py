@@ -15,6 +15,7 @@ lie farther apart, one between them gets a name too. Answers whose chains are th
 
     tools/named.py CRATE FN..     rewrites crates/CRATE/proofs/**/FN/Proof.antt (FN may be a path below proofs/)
     tools/named.py CRATE          rewrites every one with a chain of more than three, or a line of more than 150 characters
+    FIELD=WORD                    among them: calls the place that holds FIELD by WORD
     --no-gen                      takes target/gen-CRATE as it is; else `rt dev CRATE --generated` writes it first
 
 It also breaks lines at 140 characters, and lists the terms that still stand twice in an answer: those want a `let`, or a law. Run `rt fmt` and
@@ -32,6 +33,7 @@ TOKEN = re.compile(r'\s+|[()\[\]{},;]|"[^"]*"|[^\s()\[\]{},;]+')
 OPEN, SHUT = '([{', ')]}'
 # words of the language and its tactics: a place that is called so gets another name
 TAKEN = set('data record where use mod pub as open module let in do elim with rw simp search cc omega grw cap now length refl sym ap'.split())
+NAMES = dict(w.split('=') for w in sys.argv[1:] if '=' in w)
 LOOSE = {'∙', '∷', '++', '×', '→', '≡', '⊎', ',', '|', '↦', '≤', '<', '+'}
 
 
@@ -163,7 +165,7 @@ def name_of(fields, asked, used):
         name = pick[0] if pick else (fields[0] if fields else None)
         if name is None:
             raise SystemExit('named.py: a place has no name: run without --no-gen')
-    name = name.replace('«', '').replace('»', '').replace('_', '-')
+    name = NAMES[name] if name in NAMES else re.sub('^get-', '', name.replace('«', '').replace('»', '').replace('_', '-'))
     while name in used or name in TAKEN:
         name += '-at'
     return name
@@ -189,43 +191,90 @@ def stepping(places, chain):
     return out
 
 
-def spaces(text):
-    """The spaces of a one-line term where a line may end: [(index, depth)]; the looser, the smaller the depth."""
-    out, depth, i = [], 0, 0
-    toks = TOKEN.findall(text)
-    pos = 0
+def items(text):
+    """The parts of a one-line term that stand beside each other: words with their projections, brackets with what is in them."""
+    out, depth, start, toks, pos = [], 0, None, TOKEN.findall(text), 0
     for n, t in enumerate(toks):
-        if t in OPEN:
-            depth += 1
-        elif t in SHUT:
-            depth -= 1
-        elif t.isspace():
-            before, after = toks[n - 1], toks[n + 1] if n + 1 < len(toks) else ''
-            bad = after.startswith('.') or before == 'λ' or after in ('=', ':', 'in') or before in ('let', '=', ':', '|')
-            bad = bad or before in LOOSE - {','} or bool(re.match(r'[a-zκ₀-₉]+\.$', after) and before != ' ' and 'λ' in toks[max(0, n - 6):n])
-            if not bad:
-                loose = depth - (0.5 if after in LOOSE or before in (',', 'in', ';') or before.endswith('.') else 0)
-                out.append((pos, loose))
+        if t.isspace() and depth == 0:
+            after = toks[n + 1] if n + 1 < len(toks) else ''
+            if start is not None and not after.startswith('.') and not glued(toks, n):
+                out.append(text[start:pos])
+                start = None
+        else:
+            start = pos if start is None else start
+            depth += (t in OPEN) - (t in SHUT)
         pos += len(t)
+    if start is not None:
+        out.append(text[start:])
     return out
 
 
-def wrapped(text, indent, first=0):
-    """Breaks a one-line term; `first` is what already stands on its first line."""
-    lines, room = [], WIDE - indent - first
-    while len(text) > room:
-        options = [(d, -p) for p, d in spaces(text) if p <= room and p > min(40, room // 3)]
-        if not options:
-            options = [(0, p) for p, d in spaces(text) if p > 0][:1]
-            if not options:
-                break
-            cut = options[0][1]
+def glued(toks, n):
+    """No line ends at this space: behind a λ and its variables, an operator, `let x =` and the like."""
+    before, after = toks[n - 1], toks[n + 1]
+    binds = [i for i in range(n) if toks[i] == 'λ']
+    inside = bool(binds) and not any(toks[i].endswith('.') for i in range(binds[-1], n))
+    return inside or before in LOOSE - {','} | {'←', 'let', '=', ':', '|', 'rw', 'simp', 'at'} or after in ('=', ':', 'in', 'at')
+
+
+def segments(parts):
+    """Parts, cut before each operator of the loosest sort that is there."""
+    for sort in (('∙',), ('≡', '→', '×')):
+        if any(p.split(' ')[0] in sort for p in parts[1:]):
+            out = [[parts[0]]]
+            for p in parts[1:]:
+                if p.split(' ')[0] in sort:
+                    out.append([p])
+                else:
+                    out[-1].append(p)
+            return [' '.join(o) for o in out]
+    return parts
+
+
+def wrapped(text, indent, room=None):
+    """The lines of a one-line term: whole parts to a line as they fit; a part that is wider than a line is broken inside."""
+    room = room or WIDE - indent
+    if len(text) <= room:
+        return [text]
+    parts = items(text)
+    if len(parts) == 1:
+        return broken(parts[0], indent, room)
+    lines = ['']
+    for part in segments(parts):
+        joined = (lines[-1] + ' ' + part).strip()
+        if len(joined) <= room:
+            lines[-1] = joined
+        elif len(part) <= room or not lines[-1]:
+            lines.append(part)
         else:
-            cut = -min(options)[1]
-        lines.append(text[:cut].rstrip())
-        text = text[cut:].lstrip()
-        room = WIDE - indent
-    return lines + [text]
+            inner = wrapped(part, indent, room)
+            if len(lines[-1]) + 1 + len(inner[0]) <= room and len(lines[-1]) < 24:
+                inner[0] = lines.pop() + ' ' + inner[0]
+            lines += inner
+    return [l for n in lines if n for l in ([n] if len(n) <= room else broken(n, indent, room))]
+
+
+def broken(part, indent, room):
+    """A part that is wider than a line: broken inside its brackets, at the commas where it is a tuple."""
+    opens = next((i for i, ch in enumerate(part) if ch in OPEN), None)
+    shuts = max(part.rfind(ch) for ch in SHUT)
+    if opens is None or shuts < opens:
+        return [part]
+    head, inner, tail = part[:opens + 1], part[opens + 1:shuts], part[shuts:]
+    if re.match(r'λ [^.]*\. ', inner):
+        cut = inner.index('. ') + 2
+        head, inner = head + inner[:cut], inner[cut:]
+    pieces, depth, start = [], 0, 0
+    for i, ch in enumerate(inner):
+        depth += (ch in OPEN) - (ch in SHUT)
+        if ch == ',' and depth == 0:
+            pieces.append(inner[start:i + 1].strip())
+            start = i + 1
+    pieces.append(inner[start:].strip())
+    lines = [l for p in pieces for l in wrapped(p, indent, room - len(head) - len(tail))]
+    lines[0] = head + lines[0]
+    lines[-1] += tail
+    return lines
 
 
 def terms_twice(text):
@@ -390,7 +439,7 @@ def rewrite(path, needs):
 
 
 def main():
-    words = [w for w in sys.argv[1:] if not w.startswith('-')]
+    words = [w for w in sys.argv[1:] if not w.startswith('-') and '=' not in w]
     if not words:
         raise SystemExit(__doc__)
     crate, functions = words[0], words[1:]
