@@ -155,20 +155,32 @@ def cited(toks):
     return at
 
 
-def name_of(fields, asked, used):
-    """A name for the place whose record has these fields, of which those asked for are cited."""
-    start = {'args', 'pre', 'good', 'blocks'}
-    if (fields and 'args' in fields) or any(f in start for f in asked if f):
-        name = 'start'
-    else:
-        pick = [f for f in asked if f and (not fields or f in fields)]
-        name = pick[0] if pick else (fields[0] if fields else None)
-        if name is None:
-            raise SystemExit('named.py: a place has no name: run without --no-gen')
-    name = NAMES[name] if name in NAMES else re.sub('^get-', '', name.replace('«', '').replace('»', '').replace('_', '-'))
-    while name in used or name in TAKEN:
-        name += '-at'
-    return name
+class Unnamed(Exception):
+    pass
+
+
+def held(fields, asked):
+    """What stands at the place whose record has these fields, of which those asked for are cited."""
+    if 'args' in fields or any(f in ('args', 'pre', 'good', 'blocks') for f in asked):
+        return 'start'
+    pick = [f for f in asked if f and (not fields or f in fields)] or fields
+    if not pick:
+        raise Unnamed
+    return pick[0].replace('«', '').replace('»', '').replace('_', '-')
+
+
+def names_of(holds, used):
+    """A name for each place, from what it holds: without `get-`, and without its number where no other has the same name."""
+    short = {p: NAMES[h] if h in NAMES else re.sub('^get-', '', h) for p, h in holds.items()}
+    bare = {p: h if re.match(r'if\d+$', h) else re.sub(r'(?<=[a-z])\d+$', '', h) for p, h in short.items()}
+    names = {}
+    for p in sorted(holds):
+        name = bare[p] if list(bare.values()).count(bare[p]) == 1 else short[p]
+        while name in used or name in TAKEN:
+            name += '-at'
+        names[p] = name
+        used.add(name)
+    return names
 
 
 def stepping(places, chain):
@@ -236,6 +248,11 @@ def wrapped(text, indent, room=None):
     room = room or WIDE - indent
     if len(text) <= room:
         return [text]
+    if text.startswith('let '):
+        lets, rest = leading_lets(tokens(text))
+        if lets:
+            heads = [f'let {n}{" : " + t if t else ""} = {"".join(v)} in' for n, t, v in lets]
+            return [l for h in heads for l in ([h] if len(h) <= room else wrapped(' ' + h, indent, room))] + wrapped(''.join(rest), indent, room)
     parts = items(text)
     if len(parts) == 1:
         return broken(parts[0], indent, room)
@@ -244,13 +261,13 @@ def wrapped(text, indent, room=None):
         joined = (lines[-1] + ' ' + part).strip()
         if len(joined) <= room:
             lines[-1] = joined
-        elif len(part) <= room or not lines[-1]:
+        elif lines == [lines[-1]] and len(lines[-1]) < 12 and part[0] in OPEN:
+            inner = wrapped(part, indent, room - len(joined) + len(part))
+            lines = [(lines[-1] + ' ' + inner[0]).strip()] + inner[1:]
+        elif len(part) <= room:
             lines.append(part)
         else:
-            inner = wrapped(part, indent, room)
-            if len(lines[-1]) + 1 + len(inner[0]) <= room and len(lines[-1]) < 24:
-                inner[0] = lines.pop() + ' ' + inner[0]
-            lines += inner
+            lines += wrapped(part, indent, room)
     return [l for n in lines if n for l in ([n] if len(n) <= room else broken(n, indent, room))]
 
 
@@ -292,8 +309,8 @@ def terms_twice(text):
     return [t for t in sorted(twice, key=len, reverse=True) if not any(t != u and t in u for u in twice)]
 
 
-def body_named(body, variables, chain, where):
-    """The lines of an answer, its places named: (lets, the term). None where nothing changes."""
+def body_named(body, variables, chain, where, short=False):
+    """An answer with its places named: (lets, the term). Where it is to be short, of two places the nearer alone gets a name."""
     toks = tokens(flat(body))
     lets, rest = leading_lets(toks)
     known, kept = {variables[0]: 0}, []
@@ -310,15 +327,19 @@ def body_named(body, variables, chain, where):
     at = cited(everything)
     places = stepping([p for p in at if p > 0], chain)
     used = {t for t in everything if not isinstance(t, Place) and is_name(t)} | {n for n, _, _ in kept} | set(variables)
-    names = {0: variables[0]}
-    lines, here = [], 0
+    holds = {}
     for p in places:
         fields = chain[p] if chain and p < len(chain) else []
         for f in at.get(p, []):
             if f and fields and f not in fields:
                 raise SystemExit(f'named.py: {where}: place {p} has {fields}, and {f} is cited')
-        names[p] = name_of(fields, at.get(p, []), used)
-        used.add(names[p])
+        holds[p] = held(fields, at.get(p, []))
+    names = {0: variables[0], **names_of(holds, used)}
+    lines, here = [], 0
+    if short and len(places) == 2 and len(at.get(places[1], [])) == 1:
+        names[places[1]] = names[places[0]] + ' .before' * (places[1] - places[0])
+        places = places[:1]
+    for p in places:
         lines.append(f'let {names[p]} = {names[here]}{" .before" * (p - here)} in')
         here = p
 
@@ -332,7 +353,7 @@ def body_named(body, variables, chain, where):
 def laid(lets, term, indent, first):
     """Lets a line each, then the term; all of it on one line where it is short."""
     one = ' '.join(lets + [term])
-    if len(lets) <= 1 and first + len(one) + indent <= 130:
+    if len(lets) <= 1 and first + len(one) + indent <= 138:
         return [one]
     out = []
     for l in lets:
@@ -378,9 +399,13 @@ def clause(block, needs, where):
     if not too_long(body) or '--' in body or re.search(r'(?m)\bwhere$', body):
         return block
     name = where + ' ' + m.group(1)
-    lets, term = body_named(body, m.group(2).split()[-2:] if ' κs' in m.group(2) else ['c'], chain, name)
+    try:
+        lets, term = body_named(body, ['c', 'κs'] if ' κs' in m.group(2) else ['c'], chain, name)
+    except Unnamed:
+        print(f'{name}: left as it is: which place this is of, is not known')
+        return block
     report(name, lets, term)
-    lines = laid(lets, term, 4, len(m.group(0)))
+    lines = laid(lets, term, 4, 200 if lets else 0)
     head = block[:m.end()].rstrip()
     if len(lines) == 1 and len(m.group(0)) + len(lines[0]) <= 130:
         return head + ' ' + lines[0]
@@ -401,11 +426,18 @@ def spec(block, needs, where):
         if not m or not too_long(arg) or '--' in arg:
             continue
         name = f'{where} answer {n + 1}'
-        lets, term = body_named(arg[m.end():-1], m.group(1).split(), chains[n] if chains else None, name)
+        try:
+            lets, term = body_named(arg[m.end():-1], m.group(1).split(), chains[n] if chains else None, name)
+        except Unnamed:
+            print(f'{name}: left as it is: which place this is of, is not known')
+            continue
         report(name, lets, term)
         lines = laid(lets, term, 4, len(m.group(0)) + 1)
+        if len(lines) > 1:
+            brief = laid(*body_named(arg[m.end():-1], m.group(1).split(), chains[n] if chains else None, name, True), 4, len(m.group(0)) + 1)
+            lines = brief if len(brief) == 1 else lines
         head = f'(λ {m.group(1)}.'
-        new = head + ' ' + lines[0] + ')' if len(lines) == 1 and len(head) + len(lines[0]) + 6 <= 136 else head + '\n' + '\n'.join('    ' + l for l in lines) + ')'
+        new = head + ' ' + lines[0] + ')' if len(lines) == 1 and len(head) + len(lines[0]) + 6 <= 140 else head + '\n' + '\n'.join('    ' + l for l in lines) + ')'
         before = block[last:a].rstrip(' ')
         out += (before if before.endswith('\n') else before + '\n') + '    ' + new
         last = e
