@@ -51,8 +51,9 @@ returns-9 c = arm (c .before .before .args .r) 8 (c .before .before .args .f) _ 
 returns-10 : tie.Need-returns-10
 unfolding bytesOf
 returns-10 c =
-    let s = c .before .before .before in
-    arm (s .args .r) 9 (s .args .f) (c .four .result) (omega arith) (ap (take 4) (c .four .ensures) ∙ elements 3 (s .args .r .«locale_script») (search needs))
+    let start = c .before .before .before in
+    arm (start .args .r) 9 (start .args .f) (c .four .result) (omega arith)
+    (ap (take 4) (c .four .ensures) ∙ elements 3 (start .args .r .«locale_script») (search needs))
 
 returns-11 : tie.Need-returns-11
 unfolding bytesOf
@@ -68,21 +69,26 @@ returns-12 c = arm (c .before .before .args .r) 11 (c .before .before .args .f) 
 returns-13 : tie.Need-returns-13
 unfolding bytesOf
 returns-13 c =
-    let s = c .before .before .before in
-    arm (s .args .r) 12 (s .args .f) (c .one .result) (omega arith) (ap (take 1) (c .one .ensures) ∙ ap (λ (b : ℕ). b ∷ []) (c .before .bit-of .ensures))
+    let bit-of = c .before in
+    let start = bit-of .before .before in
+    arm (start .args .r) 12 (start .args .f) (c .one .result) (omega arith)
+    (ap (take 1) (c .one .ensures) ∙ ap (λ (b : ℕ). b ∷ []) (bit-of .bit-of .ensures))
 
 returns-14 : tie.Need-returns-14
 unfolding bytesOf
 returns-14 c =
-    let s = c .before .before in
-    let l : length (s .args .r .«locale_numbering_system») ≡ 8 = search needs in
-    arm (s .args .r) 13 (s .args .f) (s .args .r .«locale_numbering_system») (omega arith) (take-all 8 (s .args .r .«locale_numbering_system») (omega arith))
+    let start = c .before .before in
+    let l : length (start .args .r .«locale_numbering_system») ≡ 8 = search needs in
+    arm (start .args .r) 13 (start .args .f) (start .args .r .«locale_numbering_system») (omega arith)
+    (take-all 8 (start .args .r .«locale_numbering_system») (omega arith))
 
 returns-15 : tie.Need-returns-15
 unfolding bytesOf
 returns-15 c =
-    let s = c .before .before .before in
-    arm (s .args .r) 14 (s .args .f) (c .three .result) (last-one 14 (s .args .f) (c .before .before .match .rest) (s .pre)) (ap (take 3) (c .three .ensures) ∙ elements 2 (s .args .r .«end_padding») (shaped (s .args .r) _ (s .good .0) .padding))
+    let match = c .before .before in
+    let start = match .before in
+    arm (start .args .r) 14 (start .args .f) (c .three .result) (last-one 14 (start .args .f) (match .match .rest) (start .pre))
+    (ap (take 3) (c .three .ensures) ∙ elements 2 (start .args .r .«end_padding») (shaped (start .args .r) _ (start .good .0) .padding))
 
 pub field-of-spec : {M : Type 1} → statement M
 field-of-spec =

@@ -29,25 +29,31 @@ loop-holds c =
 
 sub-put-at : tie.Need-sub-put-at Inv-loop μ-loop
 sub-put-at c =
-    let l = c .before .before .before .before .before .loop in
+    let if1 = c .before .before .before in
+    let loop = if1 .before .before in
+    let l = loop .loop in
     let h : l .f < 15 = omega arith in
     omega (arith, start-end (l .f) h)
 
 put-at-requires : tie.Need-put-at-requires Inv-loop μ-loop
 put-at-requires c κs =
-    let l = c .before .before .before .before .before .loop in
+    let field-of = c .before .before in
+    let loop = field-of .before .before .before in
+    let start = loop .before .before in
+    let l = loop .loop in
     let h : l .f < 15 = omega arith in
-    let n : length (c .before .before .field-of .result) ≡ 8 = search needs in
-    let g : endOf (l .f) ≤ c .before .before .before .before .before .before .before .args .t = omega arith in
+    let n : length (field-of .field-of .result) ≡ 8 = search needs in
+    let g : endOf (l .f) ≤ start .args .t = omega arith in
     (omega (arith, start-end (l .f) h), omega (arith, width-most (l .f) h))
 
 loop-again : tie.Need-loop-again Inv-loop μ-loop
 loop-again c =
-    let s = c .before .before .before .before in
-    let r = s .args .r in
-    let o = now (s .args .out) in
-    let t = s .args .t in
-    let l = c .before .before .loop in
+    let loop = c .before .before in
+    let start = loop .before .before in
+    let r = start .args .r in
+    let o = now (start .args .out) in
+    let t = start .args .t in
+    let l = loop .loop in
     let h : l .f < 15 = omega arith in
     let i = l .inv in
     let k = laid-length r o t (l .f) (l .out) (i .3 .1) (i .3 .0) (i .2) in
@@ -55,11 +61,14 @@ loop-again c =
       omega arith,
       i .1,
       i .2,
-      ⊎-elim
-          (λ w. let g : endOf (l .f) ≤ t = omega (arith, w .0 .taken) in
+      ⊎-elim (λ w. let g : endOf (l .f) ≤ t = omega (arith, w .0 .taken) in
           let n : length (w .1 .result) ≡ 8 = search needs in (
-            ap length (w .7 ∙ w .4 .ensures) ∙ length-paste (l .out) (startOf (l .f)) (w .1 .result) (widthOf (l .f)) (omega arith) (omega (arith, width-most (l .f) h)) ∙ i .3 .0,
-            w .7 ∙ w .4 .ensures ∙ laid-more r o t (l .f) (w .1 .result) (l .out) (read-at r t (l .f) (i .1) h g) (w .1 .ensures) (i .3 .1) (omega arith),
+            ap length (w .7 ∙ w .4 .ensures)
+                ∙ length-paste (l .out) (startOf (l .f)) (w .1 .result) (widthOf (l .f)) (omega arith)
+                (omega (arith, width-most (l .f) h)) ∙ i .3 .0,
+            w .7 ∙ w .4 .ensures
+                ∙ laid-more r o t (l .f) (w .1 .result) (l .out) (read-at r t (l .f) (i .1) h g) (w .1 .ensures) (i .3 .1)
+                (omega arith),
           ))
           (λ w. (ap length (w .1) ∙ i .3 .0, w .1 ∙ i .3 .1 ∙ laid-past r o t (l .f) (unread-at r t (l .f) (i .1) h (w .0 .left))))
           (c .if1 .came),
