@@ -16,6 +16,7 @@ lie farther apart, one between them gets a name too. Answers whose chains are th
     tools/named.py CRATE FN..     rewrites crates/CRATE/proofs/**/FN/Proof.antt (FN may be a path below proofs/)
     tools/named.py CRATE          rewrites every one with a chain of more than three, or a line of more than 150 characters
     FIELD=WORD                    among them: calls the place that holds FIELD by WORD
+    --again                       also lays out what is named already: places that are cited no more lose their names
     --no-gen                      takes target/gen-CRATE as it is; else `rt dev CRATE --generated` writes it first
 
 It also breaks lines at 140 characters, and lists the terms that still stand twice in an answer: those want a `let`, or a law. Run `rt fmt` and
@@ -169,13 +170,13 @@ def held(fields, asked):
     return pick[0].replace('«', '').replace('»', '').replace('_', '-')
 
 
-def names_of(holds, used):
-    """A name for each place, from what it holds: without `get-`, and without its number where no other has the same name."""
+def names_of(holds, called, used):
+    """A name for each place: the one that it had, or what it holds, without `get-`, and without its number where no other has the same."""
     short = {p: NAMES[h] if h in NAMES else re.sub('^get-', '', h) for p, h in holds.items()}
     bare = {p: h if re.match(r'if\d+$', h) else re.sub(r'(?<=[a-z])\d+$', '', h) for p, h in short.items()}
     names = {}
     for p in sorted(holds):
-        name = bare[p] if list(bare.values()).count(bare[p]) == 1 else short[p]
+        name = called.get(p) or (bare[p] if list(bare.values()).count(bare[p]) == 1 else short[p])
         while name in used or name in TAKEN:
             name += '-at'
         names[p] = name
@@ -313,11 +314,13 @@ def body_named(body, variables, chain, where, short=False):
     """An answer with its places named: (lets, the term). Where it is to be short, of two places the nearer alone gets a name."""
     toks = tokens(flat(body))
     lets, rest = leading_lets(toks)
-    known, kept = {variables[0]: 0}, []
+    known, kept, called = {variables[0]: 0}, [], {}
     for name, typ, value in lets:
         value = resolve(value, known)
         if len(value) == 1 and isinstance(value[0], Place):
             known[name] = int(value[0])
+            if len(name) > 1:
+                called[int(value[0])] = name
             continue
         if name in known:
             del known[name]
@@ -334,7 +337,7 @@ def body_named(body, variables, chain, where, short=False):
             if f and fields and f not in fields:
                 raise SystemExit(f'named.py: {where}: place {p} has {fields}, and {f} is cited')
         holds[p] = held(fields, at.get(p, []))
-    names = {0: variables[0], **names_of(holds, used)}
+    names = {0: variables[0], **names_of(holds, called, used)}
     lines, here = [], 0
     if short and len(places) == 2 and len(at.get(places[1], [])) == 1:
         names[places[1]] = names[places[0]] + ' .before' * (places[1] - places[0])
@@ -387,7 +390,8 @@ def spec_arguments(text):
 
 
 def too_long(text):
-    return longest(text) > MOST or max(map(len, text.split('\n'))) > 150
+    again = '--again' in sys.argv and re.search(r'\blet\b', text) and '.before' in text
+    return longest(text) > MOST or max(map(len, text.split('\n'))) > 150 or bool(again)
 
 
 def clause(block, needs, where):

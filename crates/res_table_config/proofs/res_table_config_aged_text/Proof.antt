@@ -14,9 +14,8 @@ res-table-config-aged-text-spec =
     (λ c κs.
     let aged-text = c .before .before .before in
     let are-bytes = aged-text .before .before in
-    let start = are-bytes .before .before .before in
     written-fits (aged-text .aged-text .result) _ _ _ (aged-text .aged-text .ensures) (c .told .ensures)
-    (aged-small (start .args .age) (now (start .args .bytes)) (now (start .args .out)) (are-bytes .are-bytes .ensures)))
+    (aged-small _ _ _ (are-bytes .are-bytes .ensures)))
     (λ c. search needs)
     (λ c.
     let told = c .before in

@@ -13,10 +13,7 @@ res-table-config-marks-spec =
     (λ c κs. tt) (λ c κs. tt)
     (λ c κs.
     let marks = c .before .before .before in
-    let marks-arg = marks .before in
-    let start = marks-arg .before .before .before in
-    written-fits (marks .marks .result) _ _ _ (marks .marks .ensures) (c .told .ensures)
-    (marks-small (start .args .age) (now (start .args .bytes)) (now (start .args .out))))
+    written-fits (marks .marks .result) _ _ _ (marks .marks .ensures) (c .told .ensures) (marks-small _ _ _))
     (λ c. search needs)
     (λ c.
     let told = c .before in

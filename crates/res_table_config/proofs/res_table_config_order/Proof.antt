@@ -16,15 +16,13 @@ res-table-config-order-spec =
     let told = c .before .before in
     let parse = told .before in
     let start = parse .before .before .before in
-    fits _ _ (first-refused (now (start .args .a)) (now (start .args .b)) (parse .parse .result) (told .told .result)
-    (parse .parse .ensures) (told .told .ensures) (c .if1 .taken)) (order-small _ _))
+    fits _ _ (first-refused _ (now (start .args .b)) (parse .parse .result) _ (parse .parse .ensures) (told .told .ensures) (c .if1 .taken))
+    (order-small _ _))
     (λ c.
     let if1 = c .before in
     let told = if1 .before .before in
     let parse = told .before in
-    let start = parse .before .before .before in
-    c .packed .ensures ∙ first-refused (now (start .args .a)) (now (start .args .b)) (parse .parse .result) (told .told .result)
-    (parse .parse .ensures) (told .told .ensures) (if1 .if1 .taken))
+    c .packed .ensures ∙ first-refused _ _ (parse .parse .result) _ (parse .parse .ensures) (told .told .ensures) (if1 .if1 .taken))
     (λ c κs. tt) (λ c κs. tt)
     (λ c κs.
     let told2 = c .before .before in
@@ -32,10 +30,8 @@ res-table-config-order-spec =
     let if1 = parse2 .before in
     let told = if1 .before .before in
     let parse = told .before in
-    let start = parse .before .before .before in
-    fits _ _ (second-refused (now (start .args .a)) (now (start .args .b)) (parse .parse .result) (told .told .result)
-    (parse .parse .ensures) (told .told .ensures) (if1 .if1 .left) (parse2 .parse2 .result) (told2 .told2 .result) (parse2 .parse2 .ensures)
-    (told2 .told2 .ensures) (c .if2 .taken)) (order-small _ _))
+    fits _ _ (second-refused _ _ (parse .parse .result) _ (parse .parse .ensures) (told .told .ensures) (if1 .if1 .left)
+    (parse2 .parse2 .result) _ (parse2 .parse2 .ensures) (told2 .told2 .ensures) (c .if2 .taken)) (order-small _ _))
     (λ c.
     let if2 = c .before in
     let told2 = if2 .before .before in
@@ -43,10 +39,9 @@ res-table-config-order-spec =
     let if1 = parse2 .before in
     let told = if1 .before .before in
     let parse = told .before in
-    let start = parse .before .before .before in
-    c .packed2 .ensures ∙ second-refused (now (start .args .a)) (now (start .args .b)) (parse .parse .result) (told .told .result)
-    (parse .parse .ensures) (told .told .ensures) (if1 .if1 .left) (parse2 .parse2 .result) (told2 .told2 .result) (parse2 .parse2 .ensures)
-    (told2 .told2 .ensures) (if2 .if2 .taken))
+    c .packed2 .ensures
+    ∙ second-refused _ _ (parse .parse .result) _ (parse .parse .ensures) (told .told .ensures) (if1 .if1 .left) (parse2 .parse2 .result) _
+    (parse2 .parse2 .ensures) (told2 .told2 .ensures) (if2 .if2 .taken))
     (λ c κs. tt) (λ c κs. tt) (λ c. search needs)
     (λ c.
     let cmp = c .before in
@@ -56,7 +51,5 @@ res-table-config-order-spec =
     let if1 = parse2 .before in
     let told = if1 .before .before in
     let parse = told .before in
-    let start = parse .before .before .before in
-    both-read (now (start .args .a)) (now (start .args .b)) (parse .parse .result) (told .told .result) (parse .parse .ensures)
-    (told .told .ensures) (if1 .if1 .left) (parse2 .parse2 .result) (told2 .told2 .result) (parse2 .parse2 .ensures) (told2 .told2 .ensures)
-    (if2 .if2 .left) (cmp .cmp .result) _ (cmp .cmp .ensures) (c .number .ensures)))
+    both-read _ _ (parse .parse .result) _ (parse .parse .ensures) (told .told .ensures) (if1 .if1 .left) (parse2 .parse2 .result) _
+    (parse2 .parse2 .ensures) (told2 .told2 .ensures) (if2 .if2 .left) _ _ (cmp .cmp .ensures) (c .number .ensures)))

@@ -14,6 +14,5 @@ res-table-config-take-spec =
     (λ c κs.
     let amount = c .before in
     let are-bytes = amount .before in
-    let start = are-bytes .before .before in
-    fits _ _ (c .told .ensures ∙ amount .amount .ensures) (take-small (now (start .args .bytes)) (are-bytes .are-bytes .ensures)))
+    fits _ _ (c .told .ensures ∙ amount .amount .ensures) (take-small _ (are-bytes .are-bytes .ensures)))
     (λ c. c .packed .ensures ∙ c .before .told .ensures ∙ c .before .before .amount .ensures))

@@ -14,9 +14,8 @@ res-table-config-text-spec =
     (λ c κs.
     let plain-text = c .before .before .before in
     let are-bytes = plain-text .before .before in
-    let start = are-bytes .before .before .before in
     written-fits (plain-text .plain-text .result) _ _ _ (plain-text .plain-text .ensures) (c .told .ensures)
-    (text-small (now (start .args .bytes)) (now (start .args .out)) (are-bytes .are-bytes .ensures)))
+    (text-small _ _ (are-bytes .are-bytes .ensures)))
     (λ c. search needs)
     (λ c.
     let told = c .before in
