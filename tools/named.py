@@ -390,7 +390,7 @@ def spec_arguments(text):
 
 
 def too_long(text):
-    again = '--again' in sys.argv and re.search(r'\blet\b', text) and '.before' in text
+    again = '--again' in sys.argv and re.search(r'\blet \S+ = \S+(?: \.before)+ in\b', text)
     return longest(text) > MOST or max(map(len, text.split('\n'))) > 150 or bool(again)
 
 

@@ -8,25 +8,22 @@ use Rattle.reading.proofs.amount.Statement.{statement}
 use Rattle.reading.proofs.amount.Tie as tie
 
 returns : tie.Need-returns
-returns c = sym (whole-short (now (c .before .before .args .bytes)) _ _ (c .if1 .taken))
+returns c = sym (whole-short _ _ _ (c .if1 .taken))
 
 returns-2 : tie.Need-returns-2
 returns-2 c =
     let word = c .before in
-    let start = word .before .before .before in
-    sym (whole-cut (now (start .args .bytes)) _ _ (omega arith) (omega (arith, word .word .ensures)))
+    sym (whole-cut _ _ _ (omega arith) (omega (arith, word .word .ensures)))
 
 returns-3 : tie.Need-returns-3
 returns-3 c =
     let word = c .before .before in
-    let start = word .before .before .before in
-    took-is (now (start .args .bytes)) 16 (omega (arith, word .word .ensures)) (omega (arith, word .word .ensures))
+    took-is _ 16 (omega (arith, word .word .ensures)) (omega (arith, word .word .ensures))
 
 returns-4 : tie.Need-returns-4
 returns-4 c =
     let word = c .before .before in
-    let start = word .before .before .before in
-    took-is (now (start .args .bytes)) (word .word .result) (omega (arith, word .word .ensures)) (omega (arith, word .word .ensures))
+    took-is _ _ (omega (arith, word .word .ensures)) (omega (arith, word .word .ensures))
 
 pub amount-spec : {M : Type 1} → statement M
 amount-spec = tie.close (tie.spec returns (λ c κs. search needs) (λ c. search needs) returns-2 returns-3 returns-4)

@@ -13,9 +13,5 @@ measure-spec =
     let n = c .before in
     let first = n .before .before in
     let start = first .before .before in
-    measured-well (start .args .src .now) (first .first .ensures) (n .n .given .1) (start .pre))
-    (λ c.
-    let n = c .before in
-    let first = n .before .before in
-    let start = first .before .before in
-    measured-ill (start .args .src .now) (first .first .ensures) (n .n2 .given .1)))
+    measured-well _ (first .first .ensures) (n .n .given .1) (start .pre))
+    (λ c. let n = c .before in measured-ill _ (n .before .before .first .ensures) (n .n2 .given .1)))

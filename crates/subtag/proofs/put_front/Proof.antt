@@ -15,7 +15,7 @@ put-front-spec =
     let n = c .before .before .before in
     let first = n .before .before in
     let start = first .before .before .before in
-    sym (length-take-le _ _ (well-in (start .args .src .now) (first .first .ensures) (n .n .given .1) (start .pre))))
+    sym (length-take-le _ _ (well-in _ (first .first .ensures) (n .n .given .1) (start .pre))))
     (λ c κs. tt) (λ c. search needs) (λ c. search needs) (λ c κs. tt) (λ c. search needs)
     (λ c.
     let put = c .before .before in

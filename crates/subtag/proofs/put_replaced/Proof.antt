@@ -44,6 +44,6 @@ put-replaced-spec =
     let loop = loop-test .before in
     let start = loop .before .before .before in
     let moved = moves (start .args .src .now) (omega arith) (put-front .put-front .ensures) in
-    (moved .1, omega arith, completes-more (start .args .src .now) (omega arith) (loop .loop .inv .2) (put-front .put-front .ensures)))
+    (moved .1, omega arith, completes-more _ (omega arith) (loop .loop .inv .2) (put-front .put-front .ensures)))
     (λ c. omega arith)
     (λ c. completes-all _ {i = c .before .loop .i} (omega arith) (c .before .loop .inv .2)))

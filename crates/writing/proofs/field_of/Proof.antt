@@ -52,15 +52,16 @@ returns-10 : tie.Need-returns-10
 unfolding bytesOf
 returns-10 c =
     let start = c .before .before .before in
-    arm (start .args .r) 9 (start .args .f) (c .four .result) (omega arith)
+    arm (start .args .r) 9 (start .args .f) _ (omega arith)
     (ap (take 4) (c .four .ensures) ∙ elements 3 (start .args .r .«locale_script») (search needs))
 
 returns-11 : tie.Need-returns-11
 unfolding bytesOf
 returns-11 c =
-    let s = c .before .before in
-    let l : length (s .args .r .«locale_variant») ≡ 8 = search needs in
-    arm (s .args .r) 10 (s .args .f) (s .args .r .«locale_variant») (omega arith) (take-all 8 (s .args .r .«locale_variant») (omega arith))
+    let start = c .before .before in
+    let variant = start .args .r .«locale_variant» in
+    let l : length variant ≡ 8 = search needs in
+    arm (start .args .r) 10 (start .args .f) variant (omega arith) (take-all 8 variant (omega arith))
 
 returns-12 : tie.Need-returns-12
 unfolding bytesOf
@@ -71,23 +72,23 @@ unfolding bytesOf
 returns-13 c =
     let bit-of = c .before in
     let start = bit-of .before .before in
-    arm (start .args .r) 12 (start .args .f) (c .one .result) (omega arith)
+    arm (start .args .r) 12 (start .args .f) _ (omega arith)
     (ap (take 1) (c .one .ensures) ∙ ap (λ (b : ℕ). b ∷ []) (bit-of .bit-of .ensures))
 
 returns-14 : tie.Need-returns-14
 unfolding bytesOf
 returns-14 c =
     let start = c .before .before in
-    let l : length (start .args .r .«locale_numbering_system») ≡ 8 = search needs in
-    arm (start .args .r) 13 (start .args .f) (start .args .r .«locale_numbering_system») (omega arith)
-    (take-all 8 (start .args .r .«locale_numbering_system») (omega arith))
+    let numbering = start .args .r .«locale_numbering_system» in
+    let l : length numbering ≡ 8 = search needs in
+    arm (start .args .r) 13 (start .args .f) numbering (omega arith) (take-all 8 numbering (omega arith))
 
 returns-15 : tie.Need-returns-15
 unfolding bytesOf
 returns-15 c =
     let match = c .before .before in
     let start = match .before in
-    arm (start .args .r) 14 (start .args .f) (c .three .result) (last-one 14 (start .args .f) (match .match .rest) (start .pre))
+    arm (start .args .r) 14 _ _ (last-one 14 _ (match .match .rest) (start .pre))
     (ap (take 3) (c .three .ensures) ∙ elements 2 (start .args .r .«end_padding») (shaped (start .args .r) _ (start .good .0) .padding))
 
 pub field-of-spec : {M : Type 1} → statement M

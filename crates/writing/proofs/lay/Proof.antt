@@ -24,8 +24,8 @@ abbrev μ-loop : tie.MeasureT-loop
 
 loop-holds : tie.Need-loop-holds Inv-loop μ-loop
 loop-holds c =
-    let s = c .before in
-    (omega arith, s .pre .0, s .pre .1 .0, (refl, laid-none (s .args .r) (now (s .args .out)) (s .args .t) (s .pre .0) (s .pre .1 .1)))
+    let start = c .before in
+    (omega arith, start .pre .0, start .pre .1 .0, (refl, laid-none _ _ _ (start .pre .0) (start .pre .1 .1)))
 
 sub-put-at : tie.Need-sub-put-at Inv-loop μ-loop
 sub-put-at c =
@@ -64,11 +64,10 @@ loop-again c =
       ⊎-elim (λ w. let g : endOf (l .f) ≤ t = omega (arith, w .0 .taken) in
           let n : length (w .1 .result) ≡ 8 = search needs in (
             ap length (w .7 ∙ w .4 .ensures)
-                ∙ length-paste (l .out) (startOf (l .f)) (w .1 .result) (widthOf (l .f)) (omega arith)
-                (omega (arith, width-most (l .f) h)) ∙ i .3 .0,
+                ∙ length-paste (l .out) (startOf (l .f)) _ (widthOf (l .f)) (omega arith) (omega (arith, width-most (l .f) h))
+                ∙ i .3 .0,
             w .7 ∙ w .4 .ensures
-                ∙ laid-more r o t (l .f) (w .1 .result) (l .out) (read-at r t (l .f) (i .1) h g) (w .1 .ensures) (i .3 .1)
-                (omega arith),
+                ∙ laid-more r o t (l .f) _ (l .out) (read-at r t (l .f) (i .1) h g) (w .1 .ensures) (i .3 .1) (omega arith),
           ))
           (λ w. (ap length (w .1) ∙ i .3 .0, w .1 ∙ i .3 .1 ∙ laid-past r o t (l .f) (unread-at r t (l .f) (i .1) h (w .0 .left))))
           (c .if1 .came),
@@ -79,10 +78,11 @@ same-length c = c .before .loop .inv .3 .0
 
 returns : tie.Need-returns Inv-loop μ-loop
 returns c =
-    let s = c .before .before .before in
-    let l = c .before .loop in
+    let loop = c .before in
+    let start = loop .before .before in
+    let l = loop .loop in
     let e : l .f ≡ 15 = omega arith in
-    l .inv .3 .1 ∙ ap (λ (n : ℕ). laid (s .args .r) n ++ drop (s .args .t) (now (s .args .out))) e
+    l .inv .3 .1 ∙ ap (λ (n : ℕ). laid (start .args .r) n ++ drop (start .args .t) (now (start .args .out))) e
 
 pub lay-spec : {M : Type 1} → statement M
 lay-spec =

@@ -17,8 +17,8 @@ returns c =
     let if1 = c .before in
     let is-tidy = if1 .before in
     let start = is-tidy .before .before in
-    sym (short-is (start .args .r) (shaped _ _ (start .good .0)) (now (start .args .out))
-    (sym (is-tidy .is-tidy .ensures) ∙ if1 .if1 .taken) (omega (arith, start .pre, c .if2 .taken)))
+    sym (short-is _ (shaped _ _ (start .good .0)) _ (sym (is-tidy .is-tidy .ensures) ∙ if1 .if1 .taken)
+    (omega (arith, start .pre, c .if2 .taken)))
 
 lay-requires : tie.Need-lay-requires
 lay-requires c κs =
@@ -46,13 +46,13 @@ returns-2 c =
     let if1 = if2 .before in
     let is-tidy = if1 .before in
     let start = is-tidy .before .before in
-    laid-is (start .args .r) (shaped _ _ (start .good .0)) (now (start .args .out)) (sym (is-tidy .is-tidy .ensures) ∙ if1 .if1 .taken)
-    (start .args .t) _ _ (start .pre) (if2 .if2 .left) (clear .clear .ensures) (lay .lay .ensures)
+    laid-is _ (shaped _ _ (start .good .0)) _ (sym (is-tidy .is-tidy .ensures) ∙ if1 .if1 .taken) _ _ _ (start .pre) (if2 .if2 .left)
+    (clear .clear .ensures) (lay .lay .ensures)
 
 returns-3 : tie.Need-returns-3
 returns-3 c =
-    let s = c .before .before .before in
-    sym (unread-is (s .args .r) (now (s .args .out)) (sym (c .before .is-tidy .ensures) ∙ c .if1 .left))
+    let is-tidy = c .before in
+    sym (unread-is _ _ (sym (is-tidy .is-tidy .ensures) ∙ c .if1 .left))
 
 pub write-long-spec : {M : Type 1} → statement M
 write-long-spec =

@@ -10,12 +10,12 @@ returns : tie.Need-returns
 returns c =
     let if1 = c .before .before .before in
     let start = if1 .before in
-    read-row (now (start .args .bytes)) (start .args .limit) (start .args .f) 2 (start .pre .0) (start .pre .1 .1) (if1 .if1 .taken)
+    read-row _ _ _ 2 (start .pre .0) (start .pre .1 .1) (if1 .if1 .taken)
 
 returns-2 : tie.Need-returns-2
 returns-2 c =
-    let s = c .before in
-    sym (zero-is (now (s .args .bytes)) (s .args .limit) (s .args .f) 3 (s .pre .1 .1) (c .if1 .left))
+    let start = c .before in
+    sym (zero-is _ _ _ 3 (start .pre .1 .1) (c .if1 .left))
 
 pub three-field-spec : {M : Type 1} → statement M
 three-field-spec =
