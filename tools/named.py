@@ -28,14 +28,38 @@ import re
 import subprocess
 import sys
 
+from layout import OPEN, SHUT, flat, leading_lets, tokens, wrapped
+
 MOST = 3        # the longest chain that stays
-WIDE = 140      # the longest line that is written
-TOKEN = re.compile(r'\s+|[()\[\]{},;]|"[^"]*"|[^\s()\[\]{},;]+')
-OPEN, SHUT = '([{', ')]}'
 # words of the language and its tactics: a place that is called so gets another name
 TAKEN = set('data record where use mod pub as open module let in do elim with rw simp search cc omega grw cap now length refl sym ap'.split())
 NAMES = dict(w.split('=') for w in sys.argv[1:] if '=' in w)
-LOOSE = {'∙', '∷', '++', '×', '→', '≡', '⊎', ',', '|', '↦', '≤', '<', '+'}
+
+
+def records_of(text):
+    """The records of a generated file: {record: [(field, its type)]}."""
+    records, current = {}, None
+    for line in text.split('\n'):
+        m = re.match(r'\s+pub record (\S+)\s', line)
+        if m:
+            current = records.setdefault(m.group(1), [])
+            continue
+        m = re.match(r'\s+pub (\S+) :\s*(.*)', line)
+        if m and current is not None:
+            current.append((m.group(1), m.group(2)))
+    return records
+
+
+def places_of(records, name):
+    """The fields of each place, from the one whose record has this name back to the start."""
+    out = []
+    while name in records:
+        out.append([f for f, _ in records[name] if f != 'before'])
+        back = [t for f, t in records[name] if f == 'before']
+        if not back:
+            break
+        name = back[0].split()[0].strip('()')
+    return out
 
 
 def generated(crate):
@@ -44,81 +68,14 @@ def generated(crate):
     found = {}
     for path in glob.glob(base + '**/Lts*.antt', recursive=True):
         text = open(path).read()
-        records, current = {}, None
-        for line in text.split('\n'):
-            m = re.match(r'\s+pub record (\S+)\s', line)
-            if m:
-                current = records.setdefault(m.group(1), [])
-                continue
-            m = re.match(r'\s+pub (\S+) :\s*(.*)', line)
-            if m and current is not None:
-                current.append((m.group(1), m.group(2)))
-
-        def places(name):
-            out = []
-            while name in records:
-                fields = records[name]
-                out.append([f for f, _ in fields if f != 'before'])
-                back = [t for f, t in fields if f == 'before']
-                if not back:
-                    break
-                name = back[0].split()[0].strip('()')
-            return out
-        needs = [(m.group(1), places(m.group(2))) for m in re.finditer(r'(Need-\S+) =\s*\(c : ([^)\s]+)', text)]
+        records = records_of(text)
+        needs = [(m.group(1), places_of(records, m.group(2))) for m in re.finditer(r'(Need-\S+) =\s*\(c : ([^)\s]+)', text)]
         found[os.path.dirname(path)[len(base):].lstrip('+')] = needs
     return found
 
 
-def tokens(text):
-    return [' ' if t.isspace() else t for t in TOKEN.findall(text.strip())]
-
-
-def flat(text):
-    """One line, with no blank inside a bracket's edge and no comma before a closing one."""
-    t = ''.join(tokens(text))
-    t = re.sub(r'([(\[{]) ', r'\1', t)
-    t = re.sub(r',? ([)\]}])', r'\1', t)
-    return t
-
-
 def is_name(tok):
     return tok not in ' ,;' and tok not in OPEN and tok not in SHUT and not tok.startswith('.')
-
-
-def leading_lets(toks):
-    """Splits `let x : T = e in ..` into [(x, T or None, e)] and the rest."""
-    lets = []
-    while toks and toks[0] == 'let':
-        depth, inner, eq, end = 0, 0, None, None
-        for i, t in enumerate(toks[1:], 1):
-            if t in OPEN:
-                depth += 1
-            elif t in SHUT:
-                depth -= 1
-            elif t == 'let' and depth == 0:
-                inner += 1
-            elif t == '=' and depth == 0 and eq is None:
-                eq = i
-            elif t == 'in' and depth == 0:
-                if inner == 0:
-                    end = i
-                    break
-                inner -= 1
-        if end is None or eq is None:
-            break
-        head = ''.join(toks[1:eq]).strip()
-        name, _, typ = head.partition(' : ')
-        lets.append((name, typ or None, [t for t in strip(toks[eq + 1:end])]))
-        toks = strip(toks[end + 1:])
-    return lets, toks
-
-
-def strip(toks):
-    while toks and toks[0] == ' ':
-        toks = toks[1:]
-    while toks and toks[-1] == ' ':
-        toks = toks[:-1]
-    return toks
 
 
 class Place(int):
@@ -204,97 +161,6 @@ def stepping(places, chain):
     return out
 
 
-def items(text):
-    """The parts of a one-line term that stand beside each other: words with their projections, brackets with what is in them."""
-    out, depth, start, toks, pos = [], 0, None, TOKEN.findall(text), 0
-    for n, t in enumerate(toks):
-        if t.isspace() and depth == 0:
-            after = toks[n + 1] if n + 1 < len(toks) else ''
-            if start is not None and not after.startswith('.') and not glued(toks, n):
-                out.append(text[start:pos])
-                start = None
-        else:
-            start = pos if start is None else start
-            depth += (t in OPEN) - (t in SHUT)
-        pos += len(t)
-    if start is not None:
-        out.append(text[start:])
-    return out
-
-
-def glued(toks, n):
-    """No line ends at this space: behind a λ and its variables, an operator, `let x =` and the like."""
-    before, after = toks[n - 1], toks[n + 1]
-    binds = [i for i in range(n) if toks[i] == 'λ']
-    inside = bool(binds) and not any(toks[i].endswith('.') for i in range(binds[-1], n))
-    return inside or before in LOOSE - {','} | {'←', 'let', '=', ':', '|', 'rw', 'simp', 'at'} or after in ('=', ':', 'in', 'at')
-
-
-def segments(parts):
-    """Parts, cut before each operator of the loosest sort that is there."""
-    for sort in (('∙',), ('≡', '→', '×')):
-        if any(p.split(' ')[0] in sort for p in parts[1:]):
-            out = [[parts[0]]]
-            for p in parts[1:]:
-                if p.split(' ')[0] in sort:
-                    out.append([p])
-                else:
-                    out[-1].append(p)
-            return [' '.join(o) for o in out]
-    return parts
-
-
-def wrapped(text, indent, room=None):
-    """The lines of a one-line term: whole parts to a line as they fit; a part that is wider than a line is broken inside."""
-    room = room or WIDE - indent
-    if len(text) <= room:
-        return [text]
-    if text.startswith('let '):
-        lets, rest = leading_lets(tokens(text))
-        if lets:
-            heads = [f'let {n}{" : " + t if t else ""} = {"".join(v)} in' for n, t, v in lets]
-            return [l for h in heads for l in ([h] if len(h) <= room else wrapped(' ' + h, indent, room))] + wrapped(''.join(rest), indent, room)
-    parts = items(text)
-    if len(parts) == 1:
-        return broken(parts[0], indent, room)
-    lines = ['']
-    for part in segments(parts):
-        joined = (lines[-1] + ' ' + part).strip()
-        if len(joined) <= room:
-            lines[-1] = joined
-        elif lines == [lines[-1]] and len(lines[-1]) < 12 and part[0] in OPEN:
-            inner = wrapped(part, indent, room - len(joined) + len(part))
-            lines = [(lines[-1] + ' ' + inner[0]).strip()] + inner[1:]
-        elif len(part) <= room:
-            lines.append(part)
-        else:
-            lines += wrapped(part, indent, room)
-    return [l for n in lines if n for l in ([n] if len(n) <= room else broken(n, indent, room))]
-
-
-def broken(part, indent, room):
-    """A part that is wider than a line: broken inside its brackets, at the commas where it is a tuple."""
-    opens = next((i for i, ch in enumerate(part) if ch in OPEN), None)
-    shuts = max(part.rfind(ch) for ch in SHUT)
-    if opens is None or shuts < opens:
-        return [part]
-    head, inner, tail = part[:opens + 1], part[opens + 1:shuts], part[shuts:]
-    if re.match(r'λ [^.]*\. ', inner):
-        cut = inner.index('. ') + 2
-        head, inner = head + inner[:cut], inner[cut:]
-    pieces, depth, start = [], 0, 0
-    for i, ch in enumerate(inner):
-        depth += (ch in OPEN) - (ch in SHUT)
-        if ch == ',' and depth == 0:
-            pieces.append(inner[start:i + 1].strip())
-            start = i + 1
-    pieces.append(inner[start:].strip())
-    lines = [l for p in pieces for l in wrapped(p, indent, room - len(head) - len(tail))]
-    lines[0] = head + lines[0]
-    lines[-1] += tail
-    return lines
-
-
 def terms_twice(text):
     """The bracketed terms and paths that stand more than once, longest first, without those inside another."""
     seen = {}
@@ -308,6 +174,18 @@ def terms_twice(text):
             seen[text[j:i + 1]] += 1
     twice = [t for t, n in seen.items() if n > 1 and len(t) > 24 and '.' in t and 'search' not in t]
     return [t for t in sorted(twice, key=len, reverse=True) if not any(t != u and t in u for u in twice)]
+
+
+def holding(places, at, chain, where):
+    """What each place holds. What is cited must stand there, else the chain is another's."""
+    holds = {}
+    for p in places:
+        fields = chain[p] if chain and p < len(chain) else []
+        for f in at.get(p, []):
+            if f and fields and f not in fields:
+                raise SystemExit(f'named.py: {where}: place {p} has {fields}, and {f} is cited')
+        holds[p] = held(fields, at.get(p, []))
+    return holds
 
 
 def body_named(body, variables, chain, where, short=False):
@@ -330,14 +208,7 @@ def body_named(body, variables, chain, where, short=False):
     at = cited(everything)
     places = stepping([p for p in at if p > 0], chain)
     used = {t for t in everything if not isinstance(t, Place) and is_name(t)} | {n for n, _, _ in kept} | set(variables)
-    holds = {}
-    for p in places:
-        fields = chain[p] if chain and p < len(chain) else []
-        for f in at.get(p, []):
-            if f and fields and f not in fields:
-                raise SystemExit(f'named.py: {where}: place {p} has {fields}, and {f} is cited')
-        holds[p] = held(fields, at.get(p, []))
-    names = {0: variables[0], **names_of(holds, called, used)}
+    names = {0: variables[0], **names_of(holding(places, at, chain, where), called, used)}
     lines, here = [], 0
     if short and len(places) == 2 and len(at.get(places[1], [])) == 1:
         names[places[1]] = names[places[0]] + ' .before' * (places[1] - places[0])
@@ -419,7 +290,7 @@ def clause(block, needs, where):
 def spec(block, needs, where):
     """Rewrites the answers that stand in the call of `tie.spec`."""
     args = spec_arguments(block)
-    answers = [a for a in args if not re.match(r'(Inv|μ)-', block[a[0]:a[1]])]
+    answers = [a for a in args if re.match(r'\(λ c( κs)?\.\s|(?!Inv-|μ-)[^\s().]+$', block[a[0]:a[1]])]
     chains = [c for _, c in needs] if len(needs) == len(answers) else None
     if needs and chains is None:
         print(f'{where}: {len(needs)} needs, {len(answers)} answers: named by what they cite')
@@ -441,7 +312,8 @@ def spec(block, needs, where):
             brief = laid(*body_named(arg[m.end():-1], m.group(1).split(), chains[n] if chains else None, name, True), 4, len(m.group(0)) + 1)
             lines = brief if len(brief) == 1 else lines
         head = f'(λ {m.group(1)}.'
-        new = head + ' ' + lines[0] + ')' if len(lines) == 1 and len(head) + len(lines[0]) + 6 <= 140 else head + '\n' + '\n'.join('    ' + l for l in lines) + ')'
+        whole = len(lines) == 1 and len(head) + len(lines[0]) + 6 <= 140
+        new = head + (' ' + lines[0] if whole else ''.join('\n    ' + l for l in lines)) + ')'
         before = block[last:a].rstrip(' ')
         out += (before if before.endswith('\n') else before + '\n') + '    ' + new
         last = e
@@ -492,4 +364,5 @@ def main():
         rewrite(path, known.get(fn.lstrip('+'), []))
 
 
-main()
+if __name__ == '__main__':
+    main()

@@ -12,7 +12,7 @@ use Rattle.answers.specs.declared.Told.{Told}
 use Rattle.answers.specs.Numbers.{numberOf}
 use Rattle.answers.specs.Tells.{success, refusal}
 use Rattle.answers.specs.Demand1.{Condition, NoneOf, FirstOf, Exactly}
-use Rattle.answers.proofs.OneToOne.{number-one, number-pos}
+use Rattle.answers.proofs.OneToOne.{number-pos, told-one}
 
 -- what comes of a row of conditions: the first that holds refuses, and where none does, the call gives
 abbrev pub byRow : {A : Type 0} → List Condition → (Refusal → A) → A → A
@@ -57,49 +57,55 @@ module _ {A : Type 0} (refuse : Refusal → A) (give : A) where
   row-none [] h = refl
   row-none (c ∷ row) h = rw (h .0) (row-none row (h .1))
 
--- an outcome with a number in it: a refusal's where it refuses, and 0 where it gives
-module _ {A : Type 0} (number : A → ℕ) (refuse : Refusal → A) (give : A) (bad : (why : Refusal) → number (refuse why) ≡ numberOf why) (good : number give ≡ 0) where
-  refused-by : (why : Refusal) (b : Bool) (r : Refusal) (rest : A) {F : Type 0} → (number rest ≡ numberOf why → F)
-      → number (cond b (refuse r) rest) ≡ numberOf why → ((b ≡ true) × (r ≡ why)) ⊎ ((b ≡ false) × F)
-  refused-by why true r rest more e = inl (refl, number-one r why (sym (bad r) ∙ e))
+-- an outcome that tells a refusal where it refuses, and number 0 where it gives
+module _ {A : Type 0} (told : A → Told) (refuse : Refusal → A) (give : A) (bad : (why : Refusal) → told (refuse why) ≡ refusal why) (good : told give .number ≡ 0) where
+  -- no refusal tells a success
+  not-good : (why : Refusal) → told (refuse why) .number ≡ 0 → ⊥
+  not-good why e = let z = sym (ap (λ (t : Told). t .number) (bad why)) ∙ e in omega (arith, number-pos why)
+
+  refused-by : (why : Refusal) (b : Bool) (r : Refusal) (rest : A) {F : Type 0} → (told rest ≡ refusal why → F)
+      → told (cond b (refuse r) rest) ≡ refusal why → ((b ≡ true) × (r ≡ why)) ⊎ ((b ≡ false) × F)
+  refused-by why true r rest more e = inl (refl, told-one r why (sym (bad r) ∙ e))
   refused-by why false r rest more e = inr (refl, more e)
 
-  row-refused : (why : Refusal) (row : List Condition) → number (byRow row refuse give) ≡ numberOf why → FirstOf why row
-  row-refused why [] e = let z = sym good ∙ e in omega (arith, number-pos why)
+  row-refused : (why : Refusal) (row : List Condition) → told (byRow row refuse give) ≡ refusal why → FirstOf why row
+  row-refused why [] e = let z = sym good ∙ ap (λ (t : Told). t .number) e in omega (arith, number-pos why)
   row-refused why (c ∷ row) e = refused-by why (c .holds) (c .why) (byRow row refuse give) (row-refused why row) e
 
-  gave-by : (b : Bool) (r : Refusal) (rest : A) {N : Type 0} → (number rest ≡ 0 → N) → number (cond b (refuse r) rest) ≡ 0 → (b ≡ false) × N
-  gave-by true r rest more e = absurd (let z = sym (bad r) ∙ e in omega (arith, number-pos r))
+  gave-by : (b : Bool) (r : Refusal) (rest : A) {N : Type 0} → (told rest .number ≡ 0 → N) → told (cond b (refuse r) rest) .number ≡ 0 → (b ≡ false) × N
+  gave-by true r rest more e = absurd (not-good r e)
   gave-by false r rest more e = (refl, more e)
 
-  row-gave : (row : List Condition) → number (byRow row refuse give) ≡ 0 → NoneOf row
+  row-gave : (row : List Condition) → told (byRow row refuse give) .number ≡ 0 → NoneOf row
   row-gave [] e = tt
   row-gave (c ∷ row) e = gave-by (c .holds) (c .why) (byRow row refuse give) (row-gave row) e
 
-  stays-by : (P : A → Type 0) → ((why : Refusal) → P (refuse why)) → (b : Bool) (r : Refusal) (rest : A) → ((number rest ≡ 0 → ⊥) → P rest)
-      → (number (cond b (refuse r) rest) ≡ 0 → ⊥) → P (cond b (refuse r) rest)
+  stays-by : (P : A → Type 0) → ((why : Refusal) → P (refuse why)) → (b : Bool) (r : Refusal) (rest : A) → ((told rest .number ≡ 0 → ⊥) → P rest)
+      → (told (cond b (refuse r) rest) .number ≡ 0 → ⊥) → P (cond b (refuse r) rest)
   stays-by P p true r rest more d = p r
   stays-by P p false r rest more d = more d
 
-  stays : (P : A → Type 0) → ((why : Refusal) → P (refuse why)) → (row : List Condition) → (number (byRow row refuse give) ≡ 0 → ⊥) → P (byRow row refuse give)
+  stays : (P : A → Type 0) → ((why : Refusal) → P (refuse why)) → (row : List Condition) → (told (byRow row refuse give) .number ≡ 0 → ⊥)
+      → P (byRow row refuse give)
   stays P p [] d = absurd (d good)
   stays P p (c ∷ row) d = stays-by P p (c .holds) (c .why) (byRow row refuse give) (stays P p row) d
 
-  -- each number exactly under its condition
-  pub row-exactly : {row : List Condition} {o : A} → Goes row refuse give o → Exactly row (number o)
+  -- each refusal exactly under its condition
+  pub row-exactly : {row : List Condition} {o : A} → Goes row refuse give o → Exactly row (told o)
   row-exactly {row} g =
       rw (g .by) (record {
-        refuses = λ why. (row-refused why row, (λ h. ap number (row-first refuse give why row h) ∙ bad why));
-        succeeds = (row-gave row, (λ h. ap number (row-none refuse give row h) ∙ good));
+        refuses = λ why. (row-refused why row, (λ h. ap told (row-first refuse give why row h) ∙ bad why));
+        succeeds = (row-gave row, (λ h. ap (λ (o : A). told o .number) (row-none refuse give row h) ∙ good));
       })
 
   -- what holds of every refusal holds of the outcome unless it succeeded
-  pub row-stays : {row : List Condition} {o : A} → Goes row refuse give o → (P : A → Type 0) → ((why : Refusal) → P (refuse why)) → (number o ≡ 0 → ⊥) → P o
+  pub row-stays : {row : List Condition} {o : A} → Goes row refuse give o → (P : A → Type 0) → ((why : Refusal) → P (refuse why))
+      → (told o .number ≡ 0 → ⊥) → P o
   row-stays {row} g P p = rw (g .by) (stays P p row)
 
 -- of a call that answers by what is told
-pub told-exactly : {row : List Condition} {n : ℕ} {t : Told} → Goes row (λ why. refusal (numberOf why)) (success n) t → Exactly row (t .number)
-told-exactly {n = n} g = row-exactly (λ (t : Told). t .number) (λ why. refusal (numberOf why)) (success n) (λ why. refl) refl g
+pub told-exactly : {row : List Condition} {n : ℕ} {t : Told} → Goes row refusal (success n) t → Exactly row t
+told-exactly {n = n} g = row-exactly (λ (t : Told). t) refusal (success n) (λ why. refl) refl g
 
 -- a refusal that no condition of a row asks for, by a computed test
 abbrev pub absent : Refusal → List Condition → Bool
@@ -130,8 +136,8 @@ module _ (c : Condition) (behind : List Condition) (last : T (absent (c .why) be
   first-holds [] n h = inl (h, refl)
   first-holds (d ∷ before) n h = inr (n .0, first-holds before (n .1) h)
 
-  -- of a call with a row that asks for a refusal once: its number exactly when its condition holds and none before it does
-  pub number-exactly : (before : List Condition) → T (absent (c .why) before) → (n : ℕ) → Exactly (before ++ (c ∷ behind)) n
-      → (n ≡ numberOf (c .why)) ↔ (NoneOf before × (c .holds ≡ true))
-  number-exactly before t n e =
+  -- of a call with a row that asks for a refusal once: it is told exactly when its condition holds and none before it does
+  pub refusal-exactly : (before : List Condition) → T (absent (c .why) before) → (told : Told) → Exactly (before ++ (c ∷ behind)) told
+      → (told ≡ refusal (c .why)) ↔ (NoneOf before × (c .holds ≡ true))
+  refusal-exactly before t told e =
       ((λ q. holds-first before t (e .refuses (c .why) .0 q)), (λ h. e .refuses (c .why) .1 (first-holds before (h .0) (h .1))))

@@ -9,7 +9,7 @@ use Rattle.answers.specs.declared.Taken.{Taken}
 use Rattle.answers.specs.declared.Told.{Told}
 use Rattle.answers.specs.declared.Written.{Written}
 use Rattle.answers.specs.Numbers.{numberOf}
-use Rattle.answers.specs.Tells.{takenTells, writtenTells}
+use Rattle.answers.specs.Tells.{refusal, takenTells, writtenTells}
 
 -- what has a way back is one-to-one
 pub one-to-one : {A B : Type 0} (f : A → B) (back : B → A) → ((a : A) → back (f a) ≡ a) → (a b : A) → f a ≡ f b → a ≡ b
@@ -79,6 +79,10 @@ number-most why = numbers-are why .1
 -- two refusals with one number are one
 pub number-one : (a b : Refusal) → numberOf a ≡ numberOf b → a ≡ b
 number-one = one-to-one numberOf (λ n. back (λ m. Refusal.FewerThan16) (λ why. why) n 0) (refused-back (λ m. Refusal.FewerThan16) (λ why. why))
+
+-- what is told fixes the refusal
+pub told-one : (a b : Refusal) → refusal a ≡ refusal b → a ≡ b
+told-one a b e = number-one a b (ap (λ (t : Told). t .number) e)
 
 -- two answers of calls that take bytes, telling the same, are one
 pub taken-one : (a b : Taken) → takenTells a ≡ takenTells b → a ≡ b

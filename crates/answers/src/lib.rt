@@ -58,7 +58,7 @@ impl Refusal {
 
     // What a refused call tells.
     pub fn told(self) -> Told
-        ensures { λ r. ⌜ r ≡ refusal (numberOf self) ⌝ }
+        ensures { λ r. ⌜ r ≡ refusal self ⌝ }
     {
         Told {
             number: self.number(),

@@ -19,9 +19,9 @@ pub refuses-by : {row : List Condition} {old : List ℕ} {give o : Outcome} → 
     → Refuses row old o
 refuses-by {old = old} {give = give} good g =
     record {
-      exactly = row-exactly (λ (z : Outcome). z .tells .number) (λ why. refused why old) give (λ why. refl) good g;
+      exactly = row-exactly (λ (z : Outcome). z .tells) (λ why. refused why old) give (λ why. refl) good g;
       untouched =
-          row-stays (λ (z : Outcome). z .tells .number) (λ why. refused why old) give (λ why. refl) good g
+          row-stays (λ (z : Outcome). z .tells) (λ why. refused why old) give (λ why. refl) good g
           (λ z. (z .tells .amount ≡ 0) × (z .leaves ≡ old)) (λ why. (refl, refl));
     }
 

@@ -15,7 +15,7 @@ shorterThan n old = record { holds = ltb (length old) n; why = Refusal.ShortBuff
 -- a call that writes over old gives each number exactly under its condition; unless it succeeds, it has written zero bytes, and
 -- it changes nothing lent to it
 pub record Refuses (row : List Condition) (old : List ℕ) (o : Outcome) : Type 0 where
-  pub exactly : Exactly row (o .tells .number)
+  pub exactly : Exactly row (o .tells)
   pub untouched : (o .tells .number ≡ 0 → ⊥) → (o .tells .amount ≡ 0) × (o .leaves ≡ old)
 
 -- every call that comes to `written w old`, as `write` and `as_string`: 5

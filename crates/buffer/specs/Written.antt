@@ -7,7 +7,6 @@ use lib.ListN.{length, drop}
 use Rattle.answers.specs.declared.Refusal.{Refusal}
 use Rattle.answers.specs.declared.Told.{Told}
 use Rattle.answers.specs.declared.Written.{Written}
-use Rattle.answers.specs.Numbers.{numberOf}
 use Rattle.answers.specs.Tells.{success, refusal, writtenTells}
 
 -- what a call comes to: what it tells, and the lent bytes that it leaves
@@ -21,7 +20,7 @@ outcome answer buffer = record { tells = writtenTells answer; leaves = buffer }
 
 -- a refusal gives its number and zero bytes written, and no lent byte changes
 abbrev pub refused : Refusal → List ℕ → Outcome
-refused why old = record { tells = refusal (numberOf why); leaves = old }
+refused why old = record { tells = refusal why; leaves = old }
 
 -- a success writes from the front; bytes behind it stay
 abbrev pub wrote : List ℕ → List ℕ → Outcome

@@ -3,13 +3,18 @@ use Prim.Native.Nat.{ℕ, suc, _+_, _≤_}
 use mathlib.Core.Path.{_≡_}
 use mathlib.Core.List.{List}
 use native.Mathlib.Omega.{arith}
+use lib.Dec.{lit<}
 use lib.ListN.{length, length-append}
+use Rattle.answers.specs.Numbers.{numberOf}
 use Rattle.answers.specs.Tells.{success}
+use Rattle.answers.proofs.OneToOne.{number-most}
 use Rattle.buffer.specs.Decimal.{decimal}
 use Rattle.buffer.proofs.Digits.{decimal-long}
 use Rattle.record.specs.Table.{Bytes}
 use Rattle.reading.specs.Reading.{amountOf, sizeOf}
 use Rattle.reading.proofs.Whole.{took-says}
+use Rattle.runs.specs.declared.Stop.{Stop}
+use Rattle.runs.specs.Fronts.{stopTells}
 use Rattle.record_line.specs.RecordLine.{recordLine}
 use Rattle.record_line.proofs.Bounds.{record-long}
 use Rattle.lines.specs.Lines.{ageLine, stopLine}
@@ -19,12 +24,17 @@ pub age-long : (d a : ℕ) → length (decimal a) ≤ suc d → length (ageLine 
 unfolding ageLine
 age-long d a h = simp length-append (omega arith)
 
--- the last line, with a place of d + 1 digits and a number of e + 1 at the most
-pub stop-long : (d e p n : ℕ) → length (decimal p) ≤ suc d → length (decimal n) ≤ suc e → length (stopLine p n) ≤ d + e + 9
-unfolding stopLine
-stop-long d e p n h g = simp length-append (omega arith)
+-- the number that a stop tells has one digit
+stop-digit : (stop : Stop) → length (decimal (stopTells stop .number)) ≤ 1
+stop-digit Stop.Ended = decimal-long 0 0 (lit< tt)
+stop-digit (Stop.Refused why) = decimal-long 0 (numberOf why) (omega (arith, number-most why))
 
--- the line of a record that stands whole in 65,536 bytes, with an index that is at most its place
+-- the last line, with an offset of d + 1 digits at the most
+pub stop-long : (d p : ℕ) (stop : Stop) → length (decimal p) ≤ suc d → length (stopLine p stop) ≤ d + 9
+unfolding stopLine
+stop-long d p stop h = let g = stop-digit stop in simp length-append (omega arith)
+
+-- the line of a record that stands whole in 65,536 bytes, with an index that is at most its offset
 pub whole-long : (a i p t : ℕ) (s : List ℕ) → Bytes s → success t ≡ amountOf s → i ≤ p → p + length s ≤ 65536 → length (recordLine a i p s) ≤ 1066
 whole-long a i p t s h e l k =
     let w = took-says s t e .1 in

@@ -44,7 +44,7 @@ module _ (a : ℕ) (s : List ℕ) (c : Cursor) (old : List ℕ) where
 
   -- what holds of every refused line holds of the call, unless it succeeds
   line-stays : (P : LineOutcome → Type 0) → ((why : Refusal) → P (lineRefused why c old)) → (lineOf a s c old .does .tells .number ≡ 0 → ⊥) → P (lineOf a s c old)
-  line-stays = row-stays (λ (o : LineOutcome). o .does .tells .number) (λ why. lineRefused why c old) (lineGiven a s c old) (λ why. refl) refl line-row
+  line-stays = row-stays (λ (o : LineOutcome). o .does .tells) (λ why. lineRefused why c old) (lineGiven a s c old) (λ why. refl) refl line-row
 
   -- `line`: 7, 3, 5
   pub line-exactly : LineRefuses a s c old
@@ -52,7 +52,7 @@ module _ (a : ℕ) (s : List ℕ) (c : Cursor) (old : List ℕ) where
       record {
         numbers =
             record {
-              exactly = row-exactly (λ (o : LineOutcome). o .does .tells .number) (λ why. lineRefused why c old) (lineGiven a s c old) (λ why. refl) refl line-row;
+              exactly = row-exactly (λ (o : LineOutcome). o .does .tells) (λ why. lineRefused why c old) (lineGiven a s c old) (λ why. refl) refl line-row;
               untouched = line-stays (λ o. (o .does .tells .amount ≡ 0) × (o .does .leaves ≡ old)) (λ why. (refl, refl));
             };
         stays = line-stays (λ o. o .goes ≡ c) (λ why. refl);

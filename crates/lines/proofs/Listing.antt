@@ -1,26 +1,24 @@
 -- The calls in a row give the whole listing, line by line. Assumes nothing.
 use Prim.Native.Nat.{ℕ, zero, suc, _+_, _*_, _/_, _≤_, _<_}
-use mathlib.Core.Path.{_≡_, refl, sym, _∙_}
+use mathlib.Core.Path.{_≡_, refl, ap, _∙_}
 use mathlib.Core.Bool.{true}
 use mathlib.Core.List.{List, [], _∷_, _++_}
 use native.Mathlib.Omega.{arith}
-use lib.Dec.{eqb, lit≤}
 use lib.ListN.{length, drop, length-drop}
 use lib.Seq.{getD-drop}
 use borrow.Author.Tests.{le-ltb, lt-ltb}
 use Rattle.answers.specs.declared.Refusal.{Refusal}
-use Rattle.answers.specs.Numbers.{numberOf}
-use Rattle.answers.specs.Tells.{refusal}
-use Rattle.answers.proofs.OneToOne.{number-most}
-use Rattle.answers.proofs.Says.{chosen}
 use Rattle.buffer.specs.Written.{wrote}
 use Rattle.buffer.proofs.Digits.{decimal-long}
 use Rattle.record.specs.Table.{Bytes}
 use Rattle.record.specs.Ages.{isAge}
 use Rattle.record.proofs.Twelve.{age-bounds}
-use Rattle.reading.specs.Reading.{amountOf, taken, ifWhole}
-use Rattle.reading.proofs.Whole.{amounts, takes, refuses, whole-short, took-says, took-whole, refused-whole}
-use Rattle.runs.specs.Runs.{offsetsIn, stopIn, reasonAt}
+use Rattle.runs.specs.declared.Stop.{Stop}
+use Rattle.runs.specs.declared.Front.{Front}
+use Rattle.runs.specs.Fronts.{byFront, offsetsIn, endIn}
+use Rattle.runs.specs.Runs.{frontAt}
+use Rattle.runs.proofs.Fronts.{standing, takes, stops, offset-next, stop-next, offset-none, stop-here, stop-is}
+use Rattle.runs.proofs.Records.{front-says, front-within}
 use Rattle.record_line.specs.RecordLine.{recordLine}
 use Rattle.lines.specs.declared.Cursor.{Cursor}
 use Rattle.lines.specs.Lines.{ageLine, stopLine, lineAt, after, lineOf, callsOf, cursorOf, recordLines, listingOf}
@@ -33,12 +31,7 @@ pub record Gives (a : ℕ) (s : List ℕ) (c : Cursor) (ws : List (List ℕ)) (d
   pub calls : (olds : List (List ℕ)) → Roomy olds → length olds ≡ length ws → callsOf a s c olds ≡ eachWrote ws olds
   pub leads : (olds : List (List ℕ)) → Roomy olds → length olds ≡ length ws → cursorOf a s c olds ≡ d
 
--- the number with which a run stops has one digit
-reason-most : (s : List ℕ) (p : ℕ) (why : Refusal) → refusal (numberOf why) ≡ amountOf (drop p s) → reasonAt s p ≤ 7
-unfolding reasonAt
-reason-most s p why e = rw (refused-whole (drop p s) _ _ why e) (chosen (λ (n : ℕ). n ≤ 7) (eqb p (length s)) (lit≤ tt) (number-most why))
-
--- bytes from a place on are bytes
+-- bytes from an offset on are bytes
 drop-bytes : (p : ℕ) (s : List ℕ) → Bytes s → Bytes (drop p s)
 drop-bytes p s h i = rw (getD-drop p s i 0) (h (p + i))
 
@@ -68,45 +61,54 @@ module _ (a : ℕ) (s : List ℕ) (known : isAge a ≡ true) (small : length s �
     step : (old : List ℕ) → 1066 ≤ length old → lineOf a s c old ≡ record { does = wrote w old; goes = next }
     step old r = line-given a s c old small known (rw line (omega arith)) ∙ rw (line, goes)
 
-  -- at an index and a place, as no index of a listing is past its place
+  -- at an index and an offset, as no index of a listing is past its offset
   module _ (i p : ℕ) (before : i ≤ p) where
-    line-here : lineAt a s (Cursor.Record i p) ≡ ifWhole (drop p s) (λ why. stopLine p (reasonAt s p)) (recordLine a i p (drop p s))
+    line-here : lineAt a s (Cursor.Record i p) ≡ byFront (stopLine p) (λ n. recordLine a i p (drop p s)) (frontAt s p)
     unfolding lineAt
     line-here = rw (le-ltb p i before)
 
-    goes-here : after s (Cursor.Record i p) ≡ ifWhole (drop p s) (λ why. Cursor.End) (Cursor.Record (suc i) (p + taken (drop p s)))
+    goes-here : after s (Cursor.Record i p) ≡ byFront (λ stop. Cursor.End) (λ n. Cursor.Record (suc i) (p + n)) (frontAt s p)
     unfolding after
     goes-here = rw (le-ltb p i before)
 
     -- where no record stands whole, the last line
-    stop-last : p ≤ length s → (why : Refusal) → refusal (numberOf why) ≡ amountOf (drop p s)
-        → Gives a s (Cursor.Record i p) (stopLine p (reasonAt s p) ∷ []) Cursor.End
-    stop-last inside why e =
+    stop-last : p ≤ length s → (stop : Stop) → frontAt s p ≡ Front.Stops stop → Gives a s (Cursor.Record i p) (stopLine p stop ∷ []) Cursor.End
+    stop-last inside stop e =
         let digits = decimal-long 4 p (omega arith) in
-        let digit = decimal-long 0 (reasonAt s p) (omega (arith, reason-most s p why e)) in
-        then (Cursor.Record i p) (stopLine p (reasonAt s p)) [] Cursor.End Cursor.End
-        (line-here ∙ refused-whole (drop p s) _ _ why e) (goes-here ∙ refused-whole (drop p s) _ _ why e)
-        (omega (arith, stop-long 4 0 p (reasonAt s p) digits digit)) (ended Cursor.End)
+        then (Cursor.Record i p) (stopLine p stop) [] Cursor.End Cursor.End (line-here ∙ ap (byFront _ _) e) (goes-here ∙ ap (byFront _ _) e)
+        (omega (arith, stop-long 4 p stop digits)) (ended Cursor.End)
 
   module _ (bytes : Bytes s) where
-    -- the lines of a run of n records at the most that is not cut by that bound, and its last line
-    run : (n i p : ℕ) → i ≤ p → p ≤ length s → length s < p + (16 + 16 * n)
-        → Gives a s (Cursor.Record i p) (recordLines a s i (offsetsIn n s p) ++ (stopLine (stopIn n s p) (reasonAt s (stopIn n s p)) ∷ [])) Cursor.End
-    unfolding offsetsIn stopIn recordLines
+    -- the lines of a run of k records at the most, and its last line
+    abbrev lines : ℕ → ℕ → ℕ → List (List ℕ)
+    lines k i p =
+        let end = endIn k (frontAt s) p in
+        recordLines a s i (offsetsIn k (frontAt s) p) ++ (stopLine (end .offset) (end .stop) ∷ [])
+
+    -- where the run stops at once
+    none : (k i p : ℕ) → i ≤ p → p ≤ length s → (stop : Stop) → frontAt s p ≡ Front.Stops stop → Gives a s (Cursor.Record i p) (lines k i p) Cursor.End
+    unfolding recordLines
+    none k i p before inside stop e =
+        rw (offset-none (frontAt s) p stop e k, stop-here (frontAt s) p stop e k, stop-is (frontAt s) p stop e) (stop-last i p before inside stop e)
+
+    -- they are given where that bound doesn't cut the run
+    run : (k i p : ℕ) → i ≤ p → p ≤ length s → length s < p + (16 + 16 * k) → Gives a s (Cursor.Record i p) (lines k i p) Cursor.End
+    unfolding recordLines
     run zero i p before inside l =
-        stop-last i p before inside Refusal.FewerThan16 (sym (whole-short (drop p s) _ _ (omega (arith, length-drop p s))))
-    run (suc n) i p before inside l =
-        let x = drop p s in
-        elim (amounts x) [
-          | refuses why e ↦ rw (refused-whole x _ _ why e, refused-whole x _ _ why e) (stop-last i p before inside why e)
-          | takes t e ↦
-              let w = took-says x t e .1 in
-              let k = length-drop p s in
-              rw (took-whole x _ _ t e, took-whole x _ _ t e)
-              (then (Cursor.Record i p) (recordLine a i p x) _ (Cursor.Record (suc i) (p + taken x)) Cursor.End
-              (line-here i p before ∙ took-whole x _ _ t e) (goes-here i p before ∙ took-whole x _ _ t e)
-              (whole-long a i p t x (drop-bytes p s bytes) e before (omega arith))
-              (run n (suc i) (p + taken x) (omega arith) (omega arith) (omega arith)))
+        elim (standing (frontAt s) p) [
+          | takes n e ↦ absurd (omega (arith, front-within s p n e))
+          | stops stop e ↦ none zero i p before inside stop e
+        ]
+    run (suc k) i p before inside l =
+        elim (standing (frontAt s) p) [
+          | stops stop e ↦ none (suc k) i p before inside stop e
+          | takes n e ↦
+              let f = front-within s p n e in
+              rw (offset-next (frontAt s) p n e k, stop-next (frontAt s) p n e k)
+              (then (Cursor.Record i p) (recordLine a i p (drop p s)) (lines k (suc i) (p + n)) (Cursor.Record (suc i) (p + n)) Cursor.End
+              (line-here i p before ∙ ap (byFront _ _) e) (goes-here i p before ∙ ap (byFront _ _) e)
+              (whole-long a i p n (drop p s) (drop-bytes p s bytes) (front-says s p n e) before (omega (arith, length-drop p s)))
+              (run k (suc i) (p + n) (omega arith) (omega arith) (omega arith)))
         ]
 
     -- the age, the run of all the bytes, and its last line
@@ -123,6 +125,6 @@ pub whole-listing : WholeListing
 whole-listing a s known small bytes olds r e = let l = listed a s known small bytes in (l .calls olds r e, l .leads olds r e)
 
 -- too much input has two lines, whatever its bytes are
-pub too-much-listed : (a : ℕ) (s : List ℕ) → 65536 < length s → listingOf a s ≡ ageLine a ∷ stopLine 0 7 ∷ []
+pub too-much-listed : (a : ℕ) (s : List ℕ) → 65536 < length s → listingOf a s ≡ ageLine a ∷ stopLine 0 (Stop.Refused Refusal.TooMuchInput) ∷ []
 unfolding listingOf
 too-much-listed a s h = rw (lt-ltb 65536 (length s) h)

@@ -5,7 +5,10 @@ use mathlib.Core.List.{List, [], _∷_, _++_}
 use lib.ListN.{drop}
 use Rattle.answers.proofs.Says.{chosen}
 use Rattle.buffer.specs.Ascii.{ascii}
-use Rattle.runs.specs.Runs.{offsetsOf, stopOf, reasonAt}
+use Rattle.answers.specs.declared.Refusal.{Refusal}
+use Rattle.runs.specs.declared.Stop.{Stop}
+use Rattle.runs.specs.Fronts.{stopTells}
+use Rattle.runs.specs.Runs.{offsetsOf, runOf}
 use Rattle.record_line.specs.Ended.{Ended}
 use Rattle.record_line.proofs.Newlines.{both, fixed, number, gap, record-ended}
 use Rattle.lines.specs.Lines.{ageLine, stopLine, recordLines, listingOf, tooMuch}
@@ -16,9 +19,9 @@ age-ended : (a : ℕ) → Ended (ageLine a)
 unfolding ageLine
 age-ended a = record { front = _; is = refl; unbroken = both (fixed (ascii "age ") tt) (number a) }
 
-stop-ended : (p n : ℕ) → Ended (stopLine p n)
+stop-ended : (p : ℕ) (stop : Stop) → Ended (stopLine p stop)
 unfolding stopLine
-stop-ended p n = record { front = _; is = refl; unbroken = both (both (both (fixed (ascii "stop ") tt) (number p)) gap) (number n) }
+stop-ended p stop = record { front = _; is = refl; unbroken = both (both (both (fixed (ascii "stop ") tt) (number p)) gap) (number (stopTells stop .number)) }
 
 -- those of records
 records-ended : (a : ℕ) (s : List ℕ) (i : ℕ) (ps : List ℕ) (ws : List (List ℕ)) → EachEnded ws → EachEnded (recordLines a s i ps ++ ws)
@@ -30,5 +33,5 @@ records-ended a s i (p ∷ ps) ws h = (record-ended a i p (drop p s), records-en
 pub one-newline : (a : ℕ) (s : List ℕ) → EachEnded (listingOf a s)
 unfolding listingOf
 one-newline a s =
-    chosen EachEnded (tooMuch s) (age-ended a, (stop-ended 0 7, tt))
-    (age-ended a, records-ended a s 0 (offsetsOf s 0) _ (stop-ended (stopOf s 0) (reasonAt s (stopOf s 0)), tt))
+    chosen EachEnded (tooMuch s) (age-ended a, (stop-ended 0 (Stop.Refused Refusal.TooMuchInput), tt))
+    (age-ended a, records-ended a s 0 (offsetsOf s 0) _ (stop-ended (runOf s 0 .offset) (runOf s 0 .stop), tt))

@@ -5,6 +5,7 @@ use mathlib.Core.List.{List}
 use Rattle.answers.specs.declared.Written.{Written}
 use Rattle.buffer.specs.Written.{outcome, written}
 use Rattle.buffer.proofs.OneOutcome.{one-outcome}
+use Rattle.runs.specs.declared.Stop.{Stop}
 use Rattle.lines.specs.declared.Cursor.{Cursor}
 use Rattle.lines.specs.declared.Lined.{Lined}
 use Rattle.lines.specs.Lines.{LineOutcome, ageLine, stopLine, linedOutcome, lineOf}
@@ -15,9 +16,9 @@ one-first p q = p ∙ sym q
 pub one-age-line : (a : ℕ) (old : List ℕ) {r s : Written} {x y : List ℕ} → outcome r x ≡ written (ageLine a) old → outcome s y ≡ written (ageLine a) old → (r ≡ s) × (x ≡ y)
 one-age-line a old p q = one-outcome p q
 
-pub one-stop-line : (place number : ℕ) (old : List ℕ) {r s : Written} {x y : List ℕ}
-    → outcome r x ≡ written (stopLine place number) old → outcome s y ≡ written (stopLine place number) old → (r ≡ s) × (x ≡ y)
-one-stop-line place number old p q = one-outcome p q
+pub one-stop-line : (offset : ℕ) (stop : Stop) (old : List ℕ) {r s : Written} {x y : List ℕ}
+    → outcome r x ≡ written (stopLine offset stop) old → outcome s y ≡ written (stopLine offset stop) old → (r ≡ s) × (x ≡ y)
+one-stop-line offset stop old p q = one-outcome p q
 
 same : (r s : Lined) → r .answer ≡ s .answer → r .cursor ≡ s .cursor → r ≡ s
 same r s p q = λ i. record { answer = p i; cursor = q i }

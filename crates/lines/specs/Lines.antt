@@ -8,8 +8,10 @@ use Rattle.answers.specs.declared.Refusal.{Refusal}
 use Rattle.buffer.specs.Ascii.{ascii}
 use Rattle.buffer.specs.Decimal.{decimal}
 use Rattle.buffer.specs.Written.{Outcome, outcome, written, wrote, refused}
-use Rattle.reading.specs.Reading.{taken, ifWhole, ifAge}
-use Rattle.runs.specs.Runs.{offsetsOf, stopOf, reasonAt}
+use Rattle.reading.specs.Reading.{ifAge}
+use Rattle.runs.specs.declared.Stop.{Stop}
+use Rattle.runs.specs.Fronts.{byFront, stopTells}
+use Rattle.runs.specs.Runs.{frontAt, offsetsOf, runOf}
 use Rattle.record_line.specs.RecordLine.{newline, space, recordLine}
 use Rattle.lines.specs.declared.Cursor.{Cursor}
 use Rattle.lines.specs.declared.Lined.{Lined}
@@ -18,23 +20,23 @@ use Rattle.lines.specs.declared.Lined.{Lined}
 unfoldable pub ageLine : ℕ → List ℕ
 ageLine a = ascii "age " ++ decimal a ++ newline
 
--- the last line has the offset where the run stopped, and its number
-unfoldable pub stopLine : ℕ → ℕ → List ℕ
-stopLine p n = ascii "stop " ++ decimal p ++ space ++ decimal n ++ newline
+-- the last line has the offset where the run stopped, and the number that the stop tells
+unfoldable pub stopLine : ℕ → Stop → List ℕ
+stopLine p stop = ascii "stop " ++ decimal p ++ space ++ decimal (stopTells stop .number) ++ newline
 
--- the line at a cursor: at the start the age; at index i and place p the record that stands there whole, else the stop; none at
--- the end, and none where an index is past its place, which is so in no listing
+-- the line at a cursor: at the start the age; at index i and offset p the record that stands there whole, else the stop; none at
+-- the end, and none where an index is past its offset, which is so in no listing
 unfoldable pub lineAt : ℕ → List ℕ → Cursor → List ℕ
 lineAt a s Cursor.Start = ageLine a
 lineAt a s (Cursor.Record i p) =
-    cond (ltb p i) [] (ifWhole (drop p s) (λ why. stopLine p (reasonAt s p)) (recordLine a i p (drop p s)))
+    cond (ltb p i) [] (byFront (stopLine p) (λ n. recordLine a i p (drop p s)) (frontAt s p))
 lineAt a s Cursor.End = []
 
--- the cursor behind that line: a record's is followed by the next index, T bytes further on
+-- the cursor behind that line: a record's is followed by the next index, as many bytes further on as it takes
 unfoldable pub after : List ℕ → Cursor → Cursor
 after s Cursor.Start = Cursor.Record 0 0
 after s (Cursor.Record i p) =
-    cond (ltb p i) Cursor.End (ifWhole (drop p s) (λ why. Cursor.End) (Cursor.Record (suc i) (p + taken (drop p s))))
+    cond (ltb p i) Cursor.End (byFront (λ stop. Cursor.End) (λ n. Cursor.Record (suc i) (p + n)) (frontAt s p))
 after s Cursor.End = Cursor.End
 
 -- what a call for a line comes to: what it tells and leaves, and the cursor with which the listing goes on
@@ -87,5 +89,5 @@ recordLines a s i (p ∷ ps) = recordLine a i p (drop p s) ∷ recordLines a s (
 -- and stops at 0 with 7
 unfoldable pub listingOf : ℕ → List ℕ → List (List ℕ)
 listingOf a s =
-    cond (tooMuch s) (ageLine a ∷ stopLine 0 7 ∷ [])
-    (ageLine a ∷ recordLines a s 0 (offsetsOf s 0) ++ (stopLine (stopOf s 0) (reasonAt s (stopOf s 0)) ∷ []))
+    cond (tooMuch s) (ageLine a ∷ stopLine 0 (Stop.Refused Refusal.TooMuchInput) ∷ [])
+    (ageLine a ∷ recordLines a s 0 (offsetsOf s 0) ++ (stopLine (runOf s 0 .offset) (runOf s 0 .stop) ∷ []))

@@ -1,32 +1,40 @@
 // The lines of a listing, one at a time in a lent buffer. Each call looks only at the record at its cursor.
 use answers::Refusal;
-use answers::Taken;
 use answers::Written;
 use buffer::put_between;
 use buffer::put_byte;
 use buffer::put_decimal;
 use buffer::write;
-use reading::amount;
-use reading::lesser;
 use record::Age;
-use record_line::record_line;
+use record_line::write_line;
+use runs::Front;
+use runs::Stop;
+use runs::front_at;
 ghost use mathlib.Core.Path.{_≡_};
 ghost use mathlib.Core.Bool.{true, cond};
 ghost use Prim.Native.Nat.{_≤_};
 ghost use lib.Dec.{eqb};
 ghost use lib.ListN.{length};
-ghost use Rattle.answers.specs.Numbers.{numberOf};
 ghost use Rattle.answers.specs.Tells.{writtenTells};
 ghost use Rattle.buffer.specs.Written.{outcome, written};
 ghost use Rattle.record.specs.Ages.{isAge};
 ghost use Rattle.lines.specs.Lines.{after, ageLine, lineAt, lineOf, lineWritten, linedOutcome, stopLine};
 
+// A listing takes no more bytes.
+pub const MOST_BYTES: usize = 65536;
+
+// No line with an age is longer.
+const LONGEST_AGE_LINE: usize = 15;
+
+// No last line is longer.
+const LONGEST_STOP_LINE: usize = 28;
+
 // Where a listing goes on.
 pub enum Cursor {
     // At the line with the age.
     Start,
-    // At the record of an index that begins at a place, or, where none stands there whole, at the last line.
-    Record { index: usize, place: usize },
+    // At the record of an index that begins at an offset, or, where none stands there whole, at the last line.
+    Record { index: usize, offset: usize },
     // Behind the last line.
     End,
 }
@@ -48,17 +56,18 @@ pub fn first() -> Cursor
 pub fn age_line(age: Age, out: &mut [u8]) -> Written
     ensures { λ r. ⌜ outcome r (now (out .exit)) ≡ written (ageLine (age .0)) (now (out .entry)) ⌝ }
 {
-    let mut own = [0u8; 15];
+    let mut own = [0u8; LONGEST_AGE_LINE];
     let n = put_between(&mut own, 0, b"age ", age.0 as u64, b"\n");
     write(out, &own[..n])
 }
 
-// Writes the line with the place where a run stopped, and its number.
-pub fn stop_line(place: usize, number: u32, out: &mut [u8]) -> Written
-    ensures { λ r. ⌜ outcome r (now (out .exit)) ≡ written (stopLine place number) (now (out .entry)) ⌝ }
+// Writes the line with the offset where a run stopped, and the number of why.
+pub fn stop_line(offset: usize, stop: Stop, out: &mut [u8]) -> Written
+    ensures { λ r. ⌜ outcome r (now (out .exit)) ≡ written (stopLine offset stop) (now (out .entry)) ⌝ }
 {
-    let mut own = [0u8; 37];
-    let a = put_between(&mut own, 0, b"stop ", place as u64, b" ");
+    let number = stop.told().number;
+    let mut own = [0u8; LONGEST_STOP_LINE];
+    let a = put_between(&mut own, 0, b"stop ", offset as u64, b" ");
     let b = put_decimal(&mut own, a, number as u64);
     let n = put_byte(&mut own, b, b'\n');
     write(out, &own[..n])
@@ -80,39 +89,29 @@ fn go_on(answer: Written, cursor: Cursor, next: Cursor) -> Lined
     }
 }
 
-// The number with which a run stops at a place where no record stands whole: 0 at the exact end, else the refusal's.
-fn stop_number(ended: bool, why: Refusal) -> u32
-    ensures { λ r. ⌜ r ≡ cond ended 0 (numberOf why) ⌝ }
-{
-    if ended { 0 } else { why.number() }
-}
-
-// Writes the line of the record at a place, or where none stands whole the last line.
-fn line_at(bytes: &[u8], age: Age, index: usize, place: usize, out: &mut [u8]) -> Lined
+// Writes the line of the record at an offset, or where none stands whole the last line.
+fn line_at(bytes: &[u8], age: Age, index: usize, offset: usize, out: &mut [u8]) -> Lined
     requires { ⌜ (true ≡ isAge (age .0)) × (length (now bytes) ≤ 65536) ⌝ }
-    ensures { λ r. ⌜ linedOutcome r (now (out .exit)) ≡ lineWritten (lineAt (age .0) (now (bytes .entry)) (Cursor.Record index place)) (Cursor.Record index place) (after (now (bytes .entry)) (Cursor.Record index place)) (now (out .entry)) ⌝ }
+    ensures { λ r. ⌜ linedOutcome r (now (out .exit)) ≡ lineWritten (lineAt (age .0) (now (bytes .entry)) (Cursor.Record index offset)) (Cursor.Record index offset) (after (now (bytes .entry)) (Cursor.Record index offset)) (now (out .entry)) ⌝ }
 {
-    if place < index {
+    if offset < index {
         return Lined {
             answer: Written::Wrote(0),
             cursor: Cursor::End,
         };
     }
-    let here = Cursor::Record { index, place };
-    let from = lesser(place, bytes.len());
-    let rest = &bytes[from..];
-    match amount(rest) {
-        Taken::Took(t) => {
-            let answer = record_line(rest, age, index, place, out);
+    let here = Cursor::Record { index, offset };
+    match front_at(bytes, offset) {
+        Front::Takes(n) => {
+            let answer = write_line(&bytes[offset..], n, age, index, offset, out);
             let next = Cursor::Record {
                 index: index + 1,
-                place: place + t,
+                offset: offset + n,
             };
             go_on(answer, here, next)
         }
-        Taken::Refused(why) => {
-            let number = stop_number(place == bytes.len(), why);
-            let answer = stop_line(place, number, out);
+        Front::Stops(stop) => {
+            let answer = stop_line(offset, stop, out);
             go_on(answer, here, Cursor::End)
         }
     }
@@ -122,7 +121,7 @@ fn line_at(bytes: &[u8], age: Age, index: usize, place: usize, out: &mut [u8]) -
 pub fn line(bytes: &[u8], age: Age, cursor: Cursor, out: &mut [u8]) -> Lined
     ensures { λ r. ⌜ linedOutcome r (now (out .exit)) ≡ lineOf (age .0) (now (bytes .entry)) cursor (now (out .entry)) ⌝ }
 {
-    if 65536 < bytes.len() {
+    if MOST_BYTES < bytes.len() {
         return Lined {
             answer: Written::Refused(Refusal::TooMuchInput),
             cursor,
@@ -137,9 +136,16 @@ pub fn line(bytes: &[u8], age: Age, cursor: Cursor, out: &mut [u8]) -> Lined
     match cursor {
         Cursor::Start => {
             let answer = age_line(age, out);
-            go_on(answer, Cursor::Start, Cursor::Record { index: 0, place: 0 })
+            go_on(
+                answer,
+                Cursor::Start,
+                Cursor::Record {
+                    index: 0,
+                    offset: 0,
+                },
+            )
         }
-        Cursor::Record { index, place } => line_at(bytes, age, index, place, out),
+        Cursor::Record { index, offset } => line_at(bytes, age, index, offset, out),
         Cursor::End => Lined {
             answer: Written::Wrote(0),
             cursor: Cursor::End,

@@ -1,4 +1,4 @@
-// Prints the listing of standard input, read as a run at age 64. Where a read fails it says so on standard error and prints
+// Prints the listing of standard input, read as a run at the default age. Where a read fails it says so on standard error and prints
 // nothing.
 use answers::Refusal;
 use answers::Written;
@@ -9,6 +9,7 @@ use lines::first;
 use lines::line;
 use lines::stop_line;
 use record::Age;
+use runs::Stop;
 ghost use Rattle.io.specs.Counts.{Counts};
 
 // How many bytes were read, and whether a read failed.
@@ -60,9 +61,9 @@ fn print_written(answer: Written, out: &[u8]) -> bool {
 
 // Prints the listing of input that is refused: the age, and a stop at the front.
 fn print_refused(why: Refusal, out: &mut [u8]) {
-    let age = age_line(Age::A64, out);
+    let age = age_line(Age::DEFAULT, out);
     if print_written(age, out) {
-        let stop = stop_line(0, why.number(), out);
+        let stop = stop_line(0, Stop::Refused(why), out);
         print_written(stop, out);
     }
 }
@@ -72,7 +73,7 @@ fn print_listing(bytes: &[u8], out: &mut [u8]) {
     let mut cursor = first();
     let mut turns = u32::MAX;
     while turns > 0 {
-        let lined = line(bytes, Age::A64, cursor, out);
+        let lined = line(bytes, Age::DEFAULT, cursor, out);
         let answer = lined.answer;
         cursor = lined.cursor;
         match answer {

@@ -4,7 +4,6 @@ use mathlib.Core.Path.{_≡_, _∙_}
 use mathlib.Core.Bool.{Bool, true, cond}
 use mathlib.Core.List.{List}
 use Rattle.answers.specs.declared.Refusal.{Refusal}
-use Rattle.answers.specs.Numbers.{numberOf}
 use Rattle.answers.specs.Tells.{success, refusal}
 use Rattle.record.specs.Ages.{isAge}
 use Rattle.reading.specs.Reading.{ifWhole, ifAge, amountOf}
@@ -16,7 +15,7 @@ module _ {A : Type 0} (a : ℕ) (s : List ℕ) (refuse : Refusal → A) (give : 
   pub gives : (n : ℕ) → success n ≡ amountOf s → ifAge a refuse (ifWhole s refuse give) ≡ give
   gives n e = age-known a refuse _ known ∙ took-whole s refuse give n e
 
-  pub refuses : (why : Refusal) → refusal (numberOf why) ≡ amountOf s → ifAge a refuse (ifWhole s refuse give) ≡ refuse why
+  pub refuses : (why : Refusal) → refusal why ≡ amountOf s → ifAge a refuse (ifWhole s refuse give) ≡ refuse why
   refuses why e = age-known a refuse _ known ∙ refused-whole s refuse give why e
 
 -- yes or no, by the bytes that were looked at

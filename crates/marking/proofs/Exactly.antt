@@ -5,12 +5,12 @@ use mathlib.Core.List.{List}
 use Rattle.answers.proofs.Exactly.{none-left, told-exactly}
 use Rattle.buffer.proofs.Exactly.{written-row, refuses-by}
 use Rattle.reading.proofs.Exactly.{whole-row, age-row}
-use Rattle.marking.specs.Marks.{marksOf}
+use Rattle.marking.specs.Marks.{lettersIn, marksOf}
 use Rattle.marking.specs.Demand1.{MarksRefuse, HeldRefuses}
 
 -- `marks`, of fourteen letters: 3, 1, 2, 5
 pub marks-exactly : (a : ℕ) (s old : List ℕ) → MarksRefuse a s old
-unfolding marksOf
+unfolding lettersIn
 marks-exactly a s old = refuses-by refl (age-row a (whole-row s (written-row (marksOf a s) old)))
 
 -- `held_back`: 3, 1, 2

@@ -8,8 +8,8 @@ use Rattle.answers.specs.Tells.{success, refusal}
 use Rattle.buffer.specs.Ascii.{ascii}
 use Rattle.buffer.specs.Written.{written, wrote, refused}
 use Rattle.record.specs.Ages.{isAge}
-use Rattle.reading.specs.Reading.{reads, ifWhole, ifAge}
-use Rattle.marking.specs.Marks.{markOf, marksOf, marksOutcome, heldBack, heldOf}
+use Rattle.reading.specs.Reading.{ifWhole, ifAge}
+use Rattle.marking.specs.Marks.{markIn, lettersIn, marksOf, marksOutcome, heldBack, heldOf}
 
 -- the listing's first record
 abbrev listed : List ℕ
@@ -21,7 +21,7 @@ one-byte size before after = size ∷ replicate before 0 ++ (1 ∷ replicate aft
 
 pub examples :
     -- 1. fifteen zero bytes: 1; sixteen: taken, and not held back
-    (heldOf 16 (replicate 15 0) ≡ refusal 1)
+    (heldOf 16 (replicate 15 0) ≡ refusal Refusal.FewerThan16)
     × (heldOf 16 (replicate 16 0) ≡ success 0)
     -- 10. size 36, dp word not zero: age 32 holds back, 36 shows
     × (heldOf 32 (one-byte 36 31 3) ≡ success 1)
@@ -32,7 +32,7 @@ pub examples :
     -- 12. size 65, byte 64 is 1: age 64 holds back
     × (heldOf 64 (one-byte 65 63 0) ≡ success 1)
     -- the age is tested first
-    × (heldOf 33 [] ≡ refusal 3)
+    × (heldOf 33 [] ≡ refusal Refusal.NotAnAge)
     -- the listing's marks; a field is A where the record is too short to hold it, and never B
     × (marksOf 64 listed ≡ ascii "FFFAAAAAAAAAAA")
     × (marksOf 64 (replicate 16 0) ≡ ascii "BBBAAAAAAAAAAA")
@@ -44,5 +44,5 @@ pub examples :
     × (marksOutcome 64 (17 ∷ replicate 15 0) (7 ∷ []) ≡ refused Refusal.FewerThanSize (7 ∷ []))
     × (marksOutcome 64 listed (replicate 13 7) ≡ refused Refusal.ShortBuffer (replicate 13 7))
     × (marksOutcome 64 listed (replicate 15 7) ≡ wrote (ascii "FFFAAAAAAAAAAA") (replicate 15 7))
-unfolding ifWhole ifAge isAge reads heldBack marksOf markOf written
+unfolding ifWhole ifAge isAge heldBack lettersIn markIn written
 examples = (refl, refl, refl, refl, refl, refl, refl, refl, refl, refl, refl, refl, refl, refl, refl, refl, refl)

@@ -1,56 +1,62 @@
 -- The cases of a mark, and the marks one by one. Assumes nothing.
 use Prim.Native.Nat.{ℕ, zero, suc, _+_, _≤_, _<_}
-use mathlib.Core.Path.{_≡_, refl, ap, _∙_}
+use mathlib.Core.Path.{_≡_, refl, sym, ap, _∙_}
 use mathlib.Core.Bool.{Bool, true, false, not, cond}
 use mathlib.Core.List.{List, [], _∷_, map}
 use native.Mathlib.Nat.{le-of-suc-le-suc, not-suc-le-zero}
 use native.Mathlib.Numerals.{add-one}
 use native.Mathlib.Omega.{arith}
-use lib.Dec.{eqb, eqb→eq}
-use lib.ListN.{length, getD, take, set}
-use lib.Seq.{take-suc, take-suc-set}
+use native.Mathlib.Decide.{decLe}
+use lib.Dec.{eqb, leb, ltb, eqb→eq}
+use lib.ListN.{length, getD, take}
 use borrow.Author.Tests.{lt-ltb, le-ltb, le-leb, lt-leb}
 use Rattle.record.specs.Table.{part, allZero, startOf, endOf, widthOf}
-use Rattle.reading.specs.Reading.{sizeOf, taken}
+use Rattle.buffer.specs.Put.{Put}
+use Rattle.buffer.proofs.Putting.{put-turn}
+use Rattle.reading.specs.Reading.{reads, sizeOf, taken}
 use Rattle.reading.proofs.Limits.{reads-is}
 use Rattle.reading.proofs.Rows.{in-row}
-use Rattle.marking.specs.Marks.{letter, markOf, marksOf, lateBytes}
+use Rattle.marking.specs.declared.Mark.{Mark}
+use Rattle.marking.specs.Marks.{letterOf, markIn, lettersIn, lateBytes}
 use Rattle.marking.proofs.Zeros.{drop-take}
 
-cond-not : (b : Bool) (x y : ℕ) → cond (not b) x y ≡ cond b y x
+cond-not : {A : Type 0} (b : Bool) (x y : A) → cond (not b) x y ≡ cond b y x
 cond-not true x y = refl
 cond-not false x y = refl
 
-module _ (a : ℕ) (s : List ℕ) (f : ℕ) where
+module _ (a t : ℕ) (s : List ℕ) (f : ℕ) where
   -- its end is past a
-  pub mark-u : a < endOf f → letter "U" ≡ markOf a s f
-  unfolding markOf
-  mark-u h = simp (lt-ltb a (endOf f) h)
+  pub mark-unknown : a < endOf f → Mark.Unknown ≡ markIn a t s f
+  unfolding markIn
+  mark-unknown h = simp (lt-ltb a (endOf f) h)
 
-  module _ (l : f < 15) (h : endOf f ≤ a) where
+  module _ (h : endOf f ≤ a) where
     -- the record doesn't hold it
-    pub mark-a : taken s < endOf f → letter "A" ≡ markOf a s f
-    unfolding markOf
-    mark-a g = simp (le-ltb a (endOf f) h, reads-is f (sizeOf s) l, lt-leb (endOf f) (taken s) g)
+    pub mark-absent : t < endOf f → Mark.Absent ≡ markIn a t s f
+    unfolding markIn
+    mark-absent g = simp (le-ltb a (endOf f) h, lt-ltb t (endOf f) g)
 
-    mark-held : endOf f ≤ taken s → cond (lateBytes s (endOf f) (startOf f)) (letter "F") (letter "B") ≡ markOf a s f
-    unfolding markOf
+    -- the record holds it: one of its bytes isn't zero, or all are
+    pub mark-held : endOf f ≤ t → cond (lateBytes s (endOf f) (startOf f)) Mark.Filled Mark.Blank ≡ markIn a t s f
+    unfolding markIn
     mark-held g =
-        simp (le-ltb a (endOf f) h, reads-is f (sizeOf s) l, le-leb (endOf f) (taken s) g, drop-take (startOf f) (endOf f) s)
-        (cond-not (allZero (part s (startOf f) (widthOf f))) (letter "F") (letter "B"))
+        simp (le-ltb a (endOf f) h, le-ltb t (endOf f) g, drop-take (startOf f) (endOf f) s)
+        (cond-not (allZero (part s (startOf f) (widthOf f))) Mark.Filled Mark.Blank)
 
-    -- the record holds it, and one of its bytes isn't zero
-    pub mark-f : endOf f ≤ taken s → true ≡ lateBytes s (endOf f) (startOf f) → letter "F" ≡ markOf a s f
-    mark-f g e = ap (λ (late : Bool). cond late (letter "F") (letter "B")) e ∙ mark-held g
-
-    -- the record holds it, and its bytes are all zero
-    pub mark-b : endOf f ≤ taken s → false ≡ lateBytes s (endOf f) (startOf f) → letter "B" ≡ markOf a s f
-    mark-b g e = ap (λ (late : Bool). cond late (letter "F") (letter "B")) e ∙ mark-held g
+-- of a whole record, "doesn't hold it" is "doesn't read it"
+pub absent-unread : (s : List ℕ) (f : ℕ) → f < 15 → ltb (taken s) (endOf f) ≡ not (reads (sizeOf s) f)
+absent-unread s f h = ltb-leb (taken s) (endOf f) ∙ ap not (sym (reads-is f (sizeOf s) h)) where
+  ltb-leb : (t e : ℕ) → ltb t e ≡ not (leb e t)
+  ltb-leb t e =
+      elim (decLe e t) [
+        | yes g ↦ rw (le-ltb t e g, le-leb e t g)
+        | no g ↦ let l : t < e = omega arith in rw (lt-ltb t e l, lt-leb e t l)
+      ]
 
 -- fourteen letters
-pub marks-length : (a : ℕ) (s : List ℕ) → length (marksOf a s) ≡ 14
-unfolding marksOf
-marks-length a s = refl
+pub marks-length : (a t : ℕ) (s : List ℕ) → length (lettersIn a t s) ≡ 14
+unfolding lettersIn
+marks-length a t s = refl
 
 map-at : (g : ℕ → ℕ) (l : List ℕ) (i : ℕ) → i < length l → getD (map g l) i 0 ≡ g (getD l i 0)
 map-at g [] i h = absurd (not-suc-le-zero h)
@@ -60,17 +66,16 @@ map-at g (x ∷ l) (suc i) h = map-at g l i (le-of-suc-le-suc h)
 abbrev fields : List ℕ
 fields = 1 ∷ 2 ∷ 3 ∷ 4 ∷ 5 ∷ 6 ∷ 7 ∷ 8 ∷ 9 ∷ 10 ∷ 11 ∷ 12 ∷ 13 ∷ 14 ∷ []
 
--- the letter at place i is the mark of field i + 1
-pub mark-at : (a : ℕ) (s : List ℕ) (i : ℕ) → i < 14 → getD (marksOf a s) i 0 ≡ markOf a s (i + 1)
-unfolding marksOf
-mark-at a s i h =
-    map-at (markOf a s) fields i h
-    ∙ ap (markOf a s) (eqb→eq (getD fields i 0) (i + 1) (in-row (λ j. eqb (getD fields j 0) (j + 1)) 14 tt i h))
+-- letter i, from 0, is that of field i + 1
+pub mark-at : (a t : ℕ) (s : List ℕ) (i : ℕ) → i < 14 → getD (lettersIn a t s) i 0 ≡ letterOf (markIn a t s (i + 1))
+unfolding lettersIn
+mark-at a t s i h =
+    map-at (λ f. letterOf (markIn a t s f)) fields i h
+    ∙ ap (λ (f : ℕ). letterOf (markIn a t s f)) (eqb→eq (getD fields i 0) (i + 1) (in-row (λ j. eqb (getD fields j 0) (j + 1)) 14 tt i h))
 
--- one more letter
-pub mark-next : (a : ℕ) (s letters : List ℕ) (i v : ℕ) → i < 14 → length letters ≡ 14 → take i letters ≡ take i (marksOf a s) → v ≡ markOf a s (i + 1)
-    → take (i + 1) (set letters i v) ≡ take (i + 1) (marksOf a s)
-mark-next a s letters i v h n e w =
-    let l : i < length letters = omega arith in
-    let m : i < length (marksOf a s) = omega (arith, marks-length a s) in
-    rw (add-one i, take-suc-set letters i v l, take-suc (marksOf a s) i 0 m, mark-at a s i h, e, w)
+-- one more letter is put
+pub mark-next : (a t : ℕ) (s : List ℕ) {old m n : List ℕ} {at o r : ℕ} (i v : ℕ) → i < 14 → v ≡ letterOf (markIn a t s (i + 1))
+    → Put old at (take i (lettersIn a t s)) m o → Put m o (v ∷ []) n r → Put old at (take (i + 1) (lettersIn a t s)) n r
+mark-next a t s i v h e p q =
+    let l : i < length (lettersIn a t s) = omega (arith, marks-length a t s) in
+    rw add-one (put-turn (lettersIn a t s) i l p (rw (mark-at a t s i h, ← e) q))

@@ -1,6 +1,6 @@
--- The first three marks are never A: every record holds imsi, locale and screen_type. Assumes nothing.
+-- The first three fields are never absent: every record holds imsi, locale and screen_type. Assumes nothing.
 use Prim.Native.Nat.{ℕ, _<_}
-use mathlib.Core.Path.{_≡_}
+use mathlib.Core.Path.{_≡_, ap}
 use mathlib.Core.Bool.{Bool, true, false, cond}
 use mathlib.Core.List.{List}
 use native.Mathlib.Omega.{arith}
@@ -8,14 +8,16 @@ use borrow.Author.Tests.{lt-ltb}
 use lib.Dec.{ltb}
 use Rattle.record.specs.Table.{part, allZero, startOf, endOf, widthOf}
 use Rattle.reading.specs.Reading.{reads}
-use Rattle.marking.specs.Marks.{letter, markOf}
+use Rattle.marking.specs.declared.Mark.{Mark}
+use Rattle.marking.specs.Marks.{letterOf, markIn, markOf}
+use Rattle.marking.proofs.Marking.{absent-unread}
 
-never : (past blank : Bool) → cond past (letter "U") (cond blank (letter "B") (letter "F")) ≡ letter "A" → ⊥
-never true blank e = omega arith
-never false true e = omega arith
-never false false e = omega arith
+never : (past blank : Bool) → cond past Mark.Unknown (cond blank Mark.Blank Mark.Filled) ≡ Mark.Absent → ⊥
+never true blank e = let n = ap letterOf e in omega arith
+never false true e = let n = ap letterOf e in omega arith
+never false false e = let n = ap letterOf e in omega arith
 
-pub never-a : (a : ℕ) (s : List ℕ) (f : ℕ) → f < 4 → markOf a s f ≡ letter "A" → ⊥
-unfolding markOf reads
-never-a a s f h e =
-    never (ltb a (endOf f)) (allZero (part s (startOf f) (widthOf f))) (simp (lt-ltb f 4 h) at e)
+pub never-absent : (a : ℕ) (s : List ℕ) (f : ℕ) → f < 4 → markOf a s f ≡ Mark.Absent → ⊥
+unfolding markIn reads
+never-absent a s f h e =
+    never (ltb a (endOf f)) (allZero (part s (startOf f) (widthOf f))) (simp (absent-unread s f (omega arith), lt-ltb f 4 h) at e)

@@ -33,4 +33,4 @@ MarksRefuse a s old = Refuses (notAnAge a ∷ fewerThan16 s ∷ fewerThanSize s 
 
 -- `held_back`: 3, 1, 2
 abbrev pub HeldRefuses : ℕ → List ℕ → Type 0
-HeldRefuses a s = Exactly (notAnAge a ∷ fewerThan16 s ∷ fewerThanSize s ∷ []) (heldOf a s .number)
+HeldRefuses a s = Exactly (notAnAge a ∷ fewerThan16 s ∷ fewerThanSize s ∷ []) (heldOf a s)

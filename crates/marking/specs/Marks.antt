@@ -6,29 +6,43 @@ use mathlib.Core.Bool.{Bool, not, cond}
 use lib.Dec.{ltb}
 use lib.ListN.{getD, take, drop}
 use Rattle.answers.specs.declared.Told.{Told}
-use Rattle.answers.specs.Numbers.{numberOf}
 use Rattle.answers.specs.Tells.{success, refusal}
 use Rattle.buffer.specs.Ascii.{ascii}
 use Rattle.buffer.specs.Written.{Outcome, written, refused}
 use Rattle.record.specs.Table.{startOf, endOf, widthOf, part, allZero}
-use Rattle.reading.specs.Reading.{reads, sizeOf, taken, ifWhole, ifAge}
+use Rattle.reading.specs.Reading.{taken, ifWhole, ifAge}
 use Rattle.marking.specs.declared.Held.{Held}
+use Rattle.marking.specs.declared.Mark.{Mark}
 
 -- a letter's byte
 abbrev pub letter : String → ℕ
 letter w = getD (ascii w) 0 0
 
--- the mark of field f of the record at the front of s, for a reader of age a: U when its end is past a; else A when the record
--- doesn't hold it; else B when its bytes are all zero; else F
-unfoldable pub markOf : ℕ → List ℕ → ℕ → ℕ
-markOf a s f =
-    cond (ltb a (endOf f)) (letter "U")
-    (cond (not (reads (sizeOf s) f)) (letter "A")
-    (cond (allZero (part s (startOf f) (widthOf f))) (letter "B") (letter "F")))
+-- the letter of each mark
+abbrev pub letterOf : Mark → ℕ
+letterOf Mark.Unknown = letter "U"
+letterOf Mark.Absent = letter "A"
+letterOf Mark.Blank = letter "B"
+letterOf Mark.Filled = letter "F"
 
--- the marks of the fourteen fields after size, in field order
-unfoldable pub marksOf : ℕ → List ℕ → List ℕ
-marksOf a s = map (markOf a s) (1 ∷ 2 ∷ 3 ∷ 4 ∷ 5 ∷ 6 ∷ 7 ∷ 8 ∷ 9 ∷ 10 ∷ 11 ∷ 12 ∷ 13 ∷ 14 ∷ [])
+-- the mark of field f of a record of t bytes at the front of s, for a reader of age a: unknown when its end is past a; else absent
+-- when the record doesn't hold it; else blank when its bytes are all zero; else filled
+unfoldable pub markIn : ℕ → ℕ → List ℕ → ℕ → Mark
+markIn a t s f =
+    cond (ltb a (endOf f)) Mark.Unknown
+    (cond (ltb t (endOf f)) Mark.Absent
+    (cond (allZero (part s (startOf f) (widthOf f))) Mark.Blank Mark.Filled))
+
+-- the letters of the marks of the fourteen fields after size, in field order
+unfoldable pub lettersIn : ℕ → ℕ → List ℕ → List ℕ
+lettersIn a t s = map (λ f. letterOf (markIn a t s f)) (1 ∷ 2 ∷ 3 ∷ 4 ∷ 5 ∷ 6 ∷ 7 ∷ 8 ∷ 9 ∷ 10 ∷ 11 ∷ 12 ∷ 13 ∷ 14 ∷ [])
+
+-- the same of the record at the front of s, which takes T bytes
+abbrev pub markOf : ℕ → List ℕ → ℕ → Mark
+markOf a s f = markIn a (taken s) s f
+
+abbrev pub marksOf : ℕ → List ℕ → List ℕ
+marksOf a s = lettersIn a (taken s) s
 
 -- writing the marks: 3, 1, 2, then 5
 abbrev pub marksOutcome : ℕ → List ℕ → List ℕ → Outcome
@@ -46,10 +60,10 @@ heldBack a s = lateBytes s (taken s) a
 abbrev pub heldTells : Held → Told
 heldTells Held.No = success 0
 heldTells Held.Yes = success 1
-heldTells (Held.Refused why) = refusal (numberOf why)
+heldTells (Held.Refused why) = refusal why
 
 -- asking whether a record is held back: 3, 1, 2, then yes or no
 abbrev pub heldOf : ℕ → List ℕ → Told
 heldOf a s =
-    ifAge a (λ why. refusal (numberOf why))
-    (ifWhole s (λ why. refusal (numberOf why)) (success (cond (heldBack a s) 1 0)))
+    ifAge a refusal
+    (ifWhole s refusal (success (cond (heldBack a s) 1 0)))

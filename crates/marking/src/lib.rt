@@ -3,7 +3,7 @@ use answers::Refusal;
 use answers::Taken;
 use answers::Told;
 use answers::Written;
-use buffer::write;
+use buffer::put_byte;
 use reading::amount;
 use reading::lesser;
 use record::Age;
@@ -11,9 +11,35 @@ use record::ENDS;
 use record::STARTS;
 ghost use mathlib.Core.Path.{_≡_};
 ghost use Prim.Native.Nat.{_<_};
-ghost use Rattle.buffer.specs.Written.{outcome};
-ghost use Rattle.reading.specs.Reading.{taken};
-ghost use Rattle.marking.specs.Marks.{heldOf, heldTells, lateBytes, markOf, marksOf, marksOutcome};
+ghost use Rattle.buffer.specs.Put.{Put};
+ghost use Rattle.buffer.specs.Written.{outcome, written};
+ghost use Rattle.marking.specs.Marks.{heldOf, heldTells, lateBytes, letterOf, lettersIn, markIn, marksOutcome};
+
+// What a reader of an age can say of a field.
+pub enum Mark {
+    // The field ends past the age.
+    Unknown,
+    // The record doesn't hold it.
+    Absent,
+    // Its bytes are all zero.
+    Blank,
+    // One of its bytes isn't zero.
+    Filled,
+}
+
+impl Mark {
+    // The mark's letter.
+    pub fn letter(self) -> u8
+        ensures { λ r. ⌜ r ≡ letterOf self ⌝ }
+    {
+        match self {
+            Self::Unknown => b'U',
+            Self::Absent => b'A',
+            Self::Blank => b'B',
+            Self::Filled => b'F',
+        }
+    }
+}
 
 // The answer whether a record is held back.
 pub enum Held {
@@ -75,38 +101,49 @@ pub fn held_back(bytes: &[u8], age: Age) -> Held
     }
 }
 
-// The mark of field f of the record of t bytes at the front of bytes.
-fn mark(bytes: &[u8], t: usize, age: usize, f: usize) -> u8
-    requires { ⌜ (f < 15) × (t ≡ taken (now bytes)) ⌝ }
-    ensures { λ r. ⌜ r ≡ markOf age (now (bytes .entry)) f ⌝ }
+// The mark of field f of a record of t bytes at the front of bytes.
+fn mark_of(bytes: &[u8], t: usize, age: usize, f: usize) -> Mark
+    requires { ⌜ f < 15 ⌝ }
+    ensures { λ r. ⌜ r ≡ markIn age t (now (bytes .entry)) f ⌝ }
 {
     let end = ENDS[f];
     if age < end {
-        return b'U';
+        return Mark::Unknown;
     }
     if t < end {
-        return b'A';
+        return Mark::Absent;
     }
     let start = STARTS[f];
     if late_bytes(bytes, end, start) {
-        b'F'
+        Mark::Filled
     } else {
-        b'B'
+        Mark::Blank
     }
 }
 
-// The marks of the record of t bytes at the front of bytes.
-fn all_marks(bytes: &[u8], t: usize, age: usize) -> [u8; 14]
-    requires { ⌜ t ≡ taken (now bytes) ⌝ }
-    ensures { λ r. ⌜ r ≡ marksOf age (now (bytes .entry)) ⌝ }
+// Puts the letters of the fourteen marks of a record of t bytes at the front of bytes. It refuses nothing.
+pub fn put_marks(bytes: &[u8], t: usize, age: usize, at: usize, out: &mut [u8]) -> usize
+    ensures { λ r. ⌜ Put (now (out .entry)) at (lettersIn age t (now (bytes .entry))) (now (out .exit)) r ⌝ }
 {
-    let mut letters = [0u8; 14];
+    let mut o = at;
     let mut i = 0;
     while i < 14 {
-        letters[i] = mark(bytes, t, age, i + 1);
+        let letter = mark_of(bytes, t, age, i + 1).letter();
+        o = put_byte(out, o, letter);
         i += 1;
     }
-    letters
+    o
+}
+
+// Writes the letters of the fourteen marks of a record of t bytes at the front of bytes.
+fn write_marks(bytes: &[u8], t: usize, age: usize, out: &mut [u8]) -> Written
+    ensures { λ r. ⌜ outcome r (now (out .exit)) ≡ written (lettersIn age t (now (bytes .entry))) (now (out .entry)) ⌝ }
+{
+    if out.len() < 14 {
+        return Written::Refused(Refusal::ShortBuffer);
+    }
+    put_marks(bytes, t, age, 0, out);
+    Written::Wrote(14)
 }
 
 // Writes the fourteen marks of the record at the front of bytes, for a reader of an age.
@@ -117,10 +154,7 @@ pub fn marks(bytes: &[u8], age: Age, out: &mut [u8]) -> Written
         return Written::Refused(Refusal::NotAnAge);
     }
     match amount(bytes) {
-        Taken::Took(n) => {
-            let letters = all_marks(bytes, n, age.0 as usize);
-            write(out, &letters)
-        }
+        Taken::Took(n) => write_marks(bytes, n, age.0 as usize, out),
         Taken::Refused(why) => Written::Refused(why),
     }
 }

@@ -20,7 +20,7 @@ one-reader b p a r s e f = one-answer (readerAt b p) a r s e f
 pub one-front : (b : RefT (List ℕ)) (r s : RunReader) → r ≡ readerOf b → s ≡ readerOf b → r ≡ s
 one-front b r s e f = one-answer readerOf b r s e f
 
--- of `next`: the answer, the place and the record are fixed
+-- of `next`: the answer, the offset and the record are fixed
 pub one-next : (d : RunReader) (r s : Stepped)
-    → stepOutcome r ≡ stepOf (d .age .0) (now (d .bytes)) (d .place) → stepOutcome s ≡ stepOf (d .age .0) (now (d .bytes)) (d .place) → r ≡ s
-one-next d r s e f = one-step (d .age .0) (now (d .bytes)) (d .place) r s e f
+    → stepOutcome r ≡ stepOf (d .age .0) (now (d .bytes)) (d .offset) → stepOutcome s ≡ stepOf (d .age .0) (now (d .bytes)) (d .offset) → r ≡ s
+one-next d r s e f = one-step (d .age .0) (now (d .bytes)) (d .offset) r s e f

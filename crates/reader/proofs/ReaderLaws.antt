@@ -2,7 +2,7 @@
 --     Row, Shape, Lawss        the reader's type, its description and its laws, over a signature's one lifetime.        Rows     its fields' types
 --     fieldsOf, machineOf, madeOf      a reader's fields, and their machine values; the reader that is made of fields
 --     Steps                    what a step of a reader gives
---     bytes-known, place-known, age-known, fields-known, reader-known      the machine values of each (`ByHand.antt`'s `Known`)
+--     bytes-known, offset-known, age-known, fields-known, reader-known      the machine values of each (`ByHand.antt`'s `Known`)
 --     Own, Held, Apart         what a reader owns; that with the token of its lifetime; what its fields own together, with the token
 --     opens, shuts             the last two are the same
 -- `opens`, `shuts` and the machine values take `Given`. The rest assumes nothing.
@@ -53,16 +53,16 @@ abbrev pub Rows : Lfts 1 → List RattleType
 Rows κs = Bytes κs ∷ usize ∷ G.the-row ∷ []
 
 abbrev pub fieldsOf : RunReader → RefT (List ℕ) × (ℕ × (Age × Unit {0}))
-fieldsOf d = (d .bytes, (d .place, (d .age, tt)))
+fieldsOf d = (d .bytes, (d .offset, (d .age, tt)))
 
 abbrev pub machineOf : RunReader → List Val × (List Val × (List Val × Unit {0}))
-machineOf d = (slice-vals (d .bytes), (uint-vals w64 (d .place), (G′.lowered (d .age) ∷ [], tt)))
+machineOf d = (slice-vals (d .bytes), (uint-vals w64 (d .offset), (G′.lowered (d .age) ∷ [], tt)))
 
 abbrev pub madeOf : RefT (List ℕ) × (ℕ × (Age × Unit {0})) → RunReader
 madeOf a = readerAt (a .0) (a .1 .0) (a .1 .1 .0)
 
 abbrev pub Steps : RunReader → Stepped → Type 0
-Steps d r = stepOutcome r ≡ stepOf (d .age .0) (now (d .bytes)) (d .place)
+Steps d r = stepOutcome r ≡ stepOf (d .age .0) (now (d .bytes)) (d .offset)
 
 module _ {M : Type 1} (𝓤 : URA M) (H : Heap 𝓤) (A : Atoms 𝓤) where
   abbrev pub Own : Lfts 1 → RunReader → SProp 𝓤
@@ -78,8 +78,8 @@ module _ {M : Type 1} (𝓤 : URA M) (H : Heap 𝓤) (A : Atoms 𝓤) (W : Given
   abbrev pub bytes-known : (κs : Lfts 1) → Known 𝓤 H A (Bytes κs)
   bytes-known κs = record { vals = slice-vals; tells = shr-slice-tells (named 0) (κs .0) u8; lawful = shr-slice-lawful 𝓤 H A W (named 0) (κs .0) u8 }
 
-  abbrev pub place-known : Known 𝓤 H A usize
-  place-known = record { vals = uint-vals w64; tells = uint-tells w64; lawful = uint-lawful 𝓤 H A W w64 }
+  abbrev pub offset-known : Known 𝓤 H A usize
+  offset-known = record { vals = uint-vals w64; tells = uint-tells w64; lawful = uint-lawful 𝓤 H A W w64 }
 
   -- of a declared type
   abbrev of-declared : (D : Declared) → LL.Laws D → Known 𝓤 H A (row D)
@@ -89,7 +89,7 @@ module _ {M : Type 1} (𝓤 : URA M) (H : Heap 𝓤) (A : Atoms 𝓤) (W : Given
   age-known = of-declared G.the-type G′.the-laws
 
   abbrev pub fields-known : (κs : Lfts 1) → Knowns 𝓤 H A (Rows κs)
-  fields-known κs = (bytes-known κs, (place-known, (age-known, tt)))
+  fields-known κs = (bytes-known κs, (offset-known, (age-known, tt)))
 
   abbrev pub reader-known : (κs : Lfts 1) → Known 𝓤 H A (Row κs)
   reader-known κs = of-declared (Shape κs) (Lawss κs)

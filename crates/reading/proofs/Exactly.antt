@@ -28,8 +28,8 @@ module _ {A : Type 0} {row : List Condition} {refuse : Refusal → A} {give o : 
   age-row a g = one-unless (isAge a) Refusal.NotAnAge g
 
 -- a call that gives a record
-gives-exactly : {row : List Condition} {n : ℕ} {r : ResTableConfig} {o : ParseOutcome} → Goes row parseRefused (parseTook n r) o → Exactly row (o .tells .number)
-gives-exactly {n = n} {r = r} g = row-exactly (λ (o : ParseOutcome). o .tells .number) parseRefused (parseTook n r) (λ why. refl) refl g
+gives-exactly : {row : List Condition} {n : ℕ} {r : ResTableConfig} {o : ParseOutcome} → Goes row parseRefused (parseTook n r) o → Exactly row (o .tells)
+gives-exactly {n = n} {r = r} g = row-exactly (λ (o : ParseOutcome). o .tells) parseRefused (parseTook n r) (λ why. refl) refl g
 
 -- `amount`: 1, 2
 pub amount-exactly : (s : List ℕ) → AmountRefuses s

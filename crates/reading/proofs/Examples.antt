@@ -3,6 +3,7 @@ use Prim.Native.Nat.{ℕ}
 use mathlib.Core.Path.{_≡_, refl}
 use mathlib.Core.List.{List, [], _∷_, _++_}
 use lib.ListN.{replicate}
+use Rattle.answers.specs.declared.Refusal.{Refusal}
 use Rattle.answers.specs.Tells.{success, refusal}
 use Rattle.record.specs.Ages.{isAge}
 use Rattle.record.specs.Blank.{blankRecord}
@@ -22,11 +23,11 @@ wide = from32 36 (64 ∷ 1 ∷ 224 ∷ 1 ∷ [])
 
 pub examples :
     -- 1. fifteen zero bytes: 1; sixteen: taken, and nothing is in the record, although its size is 0
-    (parseOf (replicate 15 0) .tells ≡ refusal 1)
+    (parseOf (replicate 15 0) .tells ≡ refusal Refusal.FewerThan16)
     × (parseOf (replicate 16 0) ≡ record { tells = success 16; gives = blankRecord })
     × (amountOf (replicate 40 0) ≡ success 16)
     -- 2. size 17 in 16 bytes: 2; in 17: takes 17
-    × (parseOf (17 ∷ replicate 15 0) ≡ record { tells = refusal 2; gives = blankRecord })
+    × (parseOf (17 ∷ replicate 15 0) ≡ record { tells = refusal Refusal.FewerThanSize; gives = blankRecord })
     × (parseOf (17 ∷ replicate 16 0) .tells ≡ success 17)
     -- 3. size 44, 44 bytes: script read, variant zero
     × (parseOf half .tells ≡ success 44)
@@ -37,6 +38,6 @@ pub examples :
     × (parseAged 32 wide .gives .«screen_size_dp» ≡ 0)
     × (parseAged 36 wide .gives .«screen_size_dp» ≡ 31457600)
     -- 3 comes first
-    × (parseAged 33 [] ≡ record { tells = refusal 3; gives = blankRecord })
+    × (parseAged 33 [] ≡ record { tells = refusal Refusal.NotAnAge; gives = blankRecord })
 unfolding ifWhole ifAge isAge plain aged recordBy fieldBy reads
 examples = (refl, refl, refl, refl, refl, refl, refl, refl, refl, refl, refl, refl)

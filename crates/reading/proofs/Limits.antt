@@ -1,15 +1,16 @@
 -- The rule of reading as one limit: a field is read exactly when it ends within T, and at an age within the lesser of both.
 -- Assumes nothing.
 use Prim.Native.Nat.{ℕ, _≤_, _<_, max, min}
-use mathlib.Core.Path.{_≡_, sym, _∙_}
+use mathlib.Core.Path.{_≡_, sym, ap, _∙_}
 use mathlib.Core.Bool.{Bool, true, false, cond, _&&_, _||_}
 use mathlib.Core.List.{List}
 use native.Mathlib.Omega.{arith}
 use native.Mathlib.Decide.{decLe}
 use lib.Dec.{T, leb, ltb, leb→le, ltb→lt}
+use lib.ListN.{length}
 use borrow.Author.Tests.{le-leb, lt-leb}
 use Rattle.record.specs.Table.{startOf, endOf}
-use Rattle.reading.specs.Reading.{reads, recordBy, plain, aged, sizeOf, taken}
+use Rattle.reading.specs.Reading.{reads, recordBy, plain, aged, sizeOf, taken, readTo}
 use Rattle.reading.proofs.Rows.{in-row}
 use Rattle.reading.proofs.FieldBytes.{record-by}
 
@@ -56,6 +57,12 @@ plain-is s = record-by _ _ s (λ f h. reads-is f (sizeOf s) h)
 pub aged-is : (a : ℕ) (s : List ℕ) → aged a s ≡ recordBy (λ f. leb (endOf f) (min (taken s) a)) s
 unfolding aged
 aged-is a s = record-by _ _ s (λ f h. rw (reads-is f (sizeOf s) h) (both (endOf f) (taken s) a))
+
+-- within T and a, where T bytes are there
+pub read-aged : (a n : ℕ) (s : List ℕ) → n ≡ taken s → taken s ≤ length s → readTo (min n a) s ≡ aged a s
+read-aged a n s e h =
+    let g : min (min n a) (length s) ≡ min (taken s) a = omega arith in
+    ap (λ (limit : ℕ). recordBy (λ f. leb (endOf f) limit) s) g ∙ sym (aged-is a s)
 
 -- at age 64 aged reading is plain reading
 pub aged-plain : (s : List ℕ) → aged 64 s ≡ plain s

@@ -10,7 +10,6 @@ use lib.ListN.{length}
 use borrow.Author.Tests.{lt-ltb, le-ltb}
 use Rattle.answers.specs.declared.Refusal.{Refusal}
 use Rattle.answers.specs.declared.Told.{Told}
-use Rattle.answers.specs.Numbers.{numberOf}
 use Rattle.answers.specs.Tells.{success, refusal}
 use Rattle.answers.proofs.OneToOne.{number-one, number-pos}
 use Rattle.record.specs.Ages.{isAge}
@@ -93,7 +92,7 @@ pub took-whole : {A : Type 0} (s : List ℕ) (refuse : Refusal → A) (give : A)
 took-whole s refuse give n e = whole-took s refuse give (took-says s n e .1)
 
 -- an answer that refused: the same refusal stands for every call
-pub refused-whole : {A : Type 0} (s : List ℕ) (refuse : Refusal → A) (give : A) (why : Refusal) → refusal (numberOf why) ≡ amountOf s → ifWhole s refuse give ≡ refuse why
+pub refused-whole : {A : Type 0} (s : List ℕ) (refuse : Refusal → A) (give : A) (why : Refusal) → refusal why ≡ amountOf s → ifWhole s refuse give ≡ refuse why
 refused-whole s refuse give why e =
     elim (front s) [
       | short h ↦ whole-short s refuse give h ∙ ap refuse (number-one Refusal.FewerThan16 why (sym (told-number (e ∙ whole-short s _ _ h))))
@@ -104,7 +103,7 @@ refused-whole s refuse give why e =
 -- what `amount` answers: it takes n bytes, or it refuses
 pub data Amounts (s : List ℕ) : Type 0 where
   takes : (n : ℕ) → success n ≡ amountOf s → Amounts s
-  refuses : (why : Refusal) → refusal (numberOf why) ≡ amountOf s → Amounts s
+  refuses : (why : Refusal) → refusal why ≡ amountOf s → Amounts s
 
 pub amounts : (s : List ℕ) → Amounts s
 amounts s =

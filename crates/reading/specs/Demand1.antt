@@ -23,12 +23,12 @@ notAnAge a = record { holds = not (isAge a); why = Refusal.NotAnAge }
 
 -- `amount`: 1, 2
 abbrev pub AmountRefuses : List ℕ → Type 0
-AmountRefuses s = Exactly (fewerThan16 s ∷ fewerThanSize s ∷ []) (amountOf s .number)
+AmountRefuses s = Exactly (fewerThan16 s ∷ fewerThanSize s ∷ []) (amountOf s)
 
 -- `parse`: 1, 2
 abbrev pub ParseRefuses : List ℕ → Type 0
-ParseRefuses s = Exactly (fewerThan16 s ∷ fewerThanSize s ∷ []) (parseOf s .tells .number)
+ParseRefuses s = Exactly (fewerThan16 s ∷ fewerThanSize s ∷ []) (parseOf s .tells)
 
 -- `parse_aged`: 3, 1, 2
 abbrev pub AgedRefuses : ℕ → List ℕ → Type 0
-AgedRefuses a s = Exactly (notAnAge a ∷ fewerThan16 s ∷ fewerThanSize s ∷ []) (parseAged a s .tells .number)
+AgedRefuses a s = Exactly (notAnAge a ∷ fewerThan16 s ∷ fewerThanSize s ∷ []) (parseAged a s .tells)

@@ -1,12 +1,11 @@
 -- 01, "The record" and "Ages, marks, runs": what parsing gives, plain and at an age. Assumes nothing.
-use Prim.Native.Nat.{ℕ, max}
+use Prim.Native.Nat.{ℕ, max, min}
 use mathlib.Core.List.{List}
 use mathlib.Core.Bool.{Bool, not, cond, _&&_, _||_}
 use lib.Dec.{leb, ltb}
 use lib.ListN.{length, replicate}
 use Rattle.answers.specs.declared.Refusal.{Refusal}
 use Rattle.answers.specs.declared.Told.{Told}
-use Rattle.answers.specs.Numbers.{numberOf}
 use Rattle.answers.specs.Tells.{success, refusal, takenTells}
 use Rattle.record.specs.declared.ResTableConfig.{ResTableConfig}
 use Rattle.record.specs.Ages.{isAge}
@@ -63,6 +62,10 @@ plain s = recordBy (reads (sizeOf s)) s
 unfoldable pub aged : ℕ → List ℕ → ResTableConfig
 aged a s = recordBy (readsAt a (sizeOf s)) s
 
+-- the record of the fields that end within a limit and within the bytes
+abbrev pub readTo : ℕ → List ℕ → ResTableConfig
+readTo limit s = recordBy (λ f. leb (endOf f) (min limit (length s))) s
+
 -- what is given where a whole record stands at the front of s; 1 comes when there are fewer than 16 bytes, 2 when 16 or more,
 -- fewer than size
 unfoldable pub ifWhole : {A : Type 0} → List ℕ → (Refusal → A) → A → A
@@ -89,7 +92,7 @@ parseTook n r = record { tells = success n; gives = r }
 
 -- nothing is taken, and the record that goes along holds nothing
 abbrev pub parseRefused : Refusal → ParseOutcome
-parseRefused why = record { tells = refusal (numberOf why); gives = blankRecord }
+parseRefused why = record { tells = refusal why; gives = blankRecord }
 
 -- parsing
 abbrev pub parseOf : List ℕ → ParseOutcome
@@ -101,4 +104,4 @@ parseAged a s = ifAge a parseRefused (ifWhole s parseRefused (parseTook (taken s
 
 -- how many bytes parsing takes, or its refusal
 abbrev pub amountOf : List ℕ → Told
-amountOf s = ifWhole s (λ why. refusal (numberOf why)) (success (taken s))
+amountOf s = ifWhole s refusal (success (taken s))

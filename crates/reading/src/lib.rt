@@ -9,7 +9,7 @@ use record::blank;
 ghost use mathlib.Core.Path.{_≡_};
 ghost use Prim.Native.Nat.{min};
 ghost use Rattle.answers.specs.Tells.{takenTells};
-ghost use Rattle.reading.specs.Reading.{aged, amountOf, ifWhole, parseAged, parseOf, parseRefused, parseTook, parsedOutcome, taken};
+ghost use Rattle.reading.specs.Reading.{aged, amountOf, ifWhole, parseAged, parseOf, parseRefused, parseTook, parsedOutcome, readTo, taken};
 
 // The answer of parsing, beside the record, which holds nothing where the answer is a refusal.
 pub struct Parsed {
@@ -40,6 +40,14 @@ pub fn lesser(a: usize, b: usize) -> usize
     ensures { λ r. ⌜ r ≡ min a b ⌝ }
 {
     if a < b { a } else { b }
+}
+
+// The record of the fields that end within a limit and within the bytes, for a caller who knows that a whole record stands at the
+// front. It refuses nothing.
+pub fn read_to(bytes: &[u8], limit: usize) -> ResTableConfig
+    ensures { λ r. ⌜ r ≡ readTo limit (now (bytes .entry)) ⌝ }
+{
+    fields::record_to(bytes, lesser(limit, bytes.len()))
 }
 
 // What a refused parse gives.

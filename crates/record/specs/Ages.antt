@@ -16,3 +16,7 @@ among n (a ∷ more) = eqb n a || among n more
 -- whether a number is one of the twelve
 unfoldable pub isAge : ℕ → Bool
 isAge n = among n ages
+
+-- the age of a reader that is given none
+abbrev pub defaultAge : ℕ
+defaultAge = 64

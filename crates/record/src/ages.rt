@@ -2,7 +2,7 @@
 use crate::ENDS;
 ghost use mathlib.Core.Path.{_≡_};
 ghost use lib.ListN.{getD};
-ghost use Rattle.record.specs.Ages.{ages, isAge};
+ghost use Rattle.record.specs.Ages.{ages, defaultAge, isAge};
 
 // An age: one of the twelve constants, or a number that is refused.
 pub struct Age(pub u32);
@@ -44,6 +44,9 @@ impl Age {
     // The age that knows the fields up to `end_padding`.
     pub const A64: Age = Age(64);
 
+    // The age of a reader that is given none.
+    pub const DEFAULT: Age = Age(64);
+
     // Whether the age is among the twelve, which are the ends of the fields from `screen_type` on.
     pub fn is_age(self) -> bool
         ensures { λ r. ⌜ r ≡ isAge (self .0) ⌝ }
@@ -81,7 +84,7 @@ impl Age {
     }
 }
 
-// Holds each constant to the number in its name, for whoever reads the constants: it does nothing.
+// Holds each constant to the number in its name, and the default to its definition, for whoever reads the constants: it does nothing.
 fn named()
     ensures { λ _. do ⌜ (← ⟦Age::A16.0⟧ .entry) ≡ 16 ⌝ }
     ensures { λ _. do ⌜ (← ⟦Age::A20.0⟧ .entry) ≡ 20 ⌝ }
@@ -95,4 +98,5 @@ fn named()
     ensures { λ _. do ⌜ (← ⟦Age::A53.0⟧ .entry) ≡ 53 ⌝ }
     ensures { λ _. do ⌜ (← ⟦Age::A61.0⟧ .entry) ≡ 61 ⌝ }
     ensures { λ _. do ⌜ (← ⟦Age::A64.0⟧ .entry) ≡ 64 ⌝ }
+    ensures { λ _. do ⌜ (← ⟦Age::DEFAULT.0⟧ .entry) ≡ defaultAge ⌝ }
 {}

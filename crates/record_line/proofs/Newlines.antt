@@ -5,18 +5,18 @@ use mathlib.Core.Bool.{Bool, true, false, cond, not}
 use mathlib.Core.List.{List, [], _∷_, _++_, map}
 use native.Mathlib.Omega.{arith}
 use native.Mathlib.Decide.{decLt, ℕ-discrete}
-use lib.Dec.{T, eqb, ltb}
+use lib.Dec.{T, eqb}
 use lib.ListN.{List·getD-eq-default}
 use borrow.Author.Tests.{lt-ltb, le-ltb, eq-eqb, ne-eqb}
 use Rattle.answers.proofs.Says.{chosen}
 use Rattle.buffer.specs.Ascii.{ascii}
 use Rattle.buffer.specs.Decimal.{digits, decimal}
-use Rattle.reading.specs.Reading.{reads, aged, sizeOf}
+use Rattle.reading.specs.Reading.{aged, sizeOf, taken}
 use Rattle.reading.proofs.Rows.{in-row}
-use Rattle.record.specs.Table.{part, allZero, startOf, endOf, widthOf}
-use Rattle.marking.specs.Marks.{heldBack, markOf, marksOf}
+use Rattle.marking.specs.Marks.{heldBack, letterOf, markIn, lettersIn}
+use Rattle.marking.specs.declared.Mark.{Mark}
 use Rattle.places.specs.Places.{textOf}
-use Rattle.record_line.specs.RecordLine.{hexDigits, hexDigit, visible, escaped, escapedAll, shownWords, shownText, space, recordLine}
+use Rattle.record_line.specs.RecordLine.{hexDigits, hexDigit, visible, escaped, escapedAll, shownWords, shownUnless, space, laidOut, recordLine}
 use Rattle.record_line.specs.Ended.{Unbroken, none, more, Ended}
 use Rattle.record_line.proofs.Escapes.{below, escaped-same, escaped-hex}
 
@@ -57,22 +57,20 @@ pub number : (n : ℕ) → Unbroken (decimal n)
 unfolding decimal
 number n = digits-unbroken n n (omega arith)
 
--- a mark, by its three tests, and the marks
-mark : (a : ℕ) (s : List ℕ) (f : ℕ) → markOf a s f ≡ 10 → ⊥
-unfolding markOf
-mark a s f =
-    let P : ℕ → Type 0 = λ n. n ≡ 10 → ⊥ in
-    chosen P (ltb a (endOf f)) (λ e. omega arith)
-    (chosen P (not (reads (sizeOf s) f)) (λ e. omega arith)
-    (chosen P (allZero (part s (startOf f) (widthOf f))) (λ e. omega arith) (λ e. omega arith)))
+-- a mark's letter, and the letters
+mark : (m : Mark) → letterOf m ≡ 10 → ⊥
+mark Mark.Unknown e = omega arith
+mark Mark.Absent e = omega arith
+mark Mark.Blank e = omega arith
+mark Mark.Filled e = omega arith
 
-marked : (a : ℕ) (s fs : List ℕ) → Unbroken (map (markOf a s) fs)
-marked a s [] = none
-marked a s (f ∷ fs) = more (mark a s f) (marked a s fs)
+marked : (a t : ℕ) (s fs : List ℕ) → Unbroken (map (λ f. letterOf (markIn a t s f)) fs)
+marked a t s [] = none
+marked a t s (f ∷ fs) = more (mark (markIn a t s f)) (marked a t s fs)
 
-marks : (a : ℕ) (s : List ℕ) → Unbroken (marksOf a s)
-unfolding marksOf
-marks a s = marked a s (1 ∷ 2 ∷ 3 ∷ 4 ∷ 5 ∷ 6 ∷ 7 ∷ 8 ∷ 9 ∷ 10 ∷ 11 ∷ 12 ∷ 13 ∷ 14 ∷ [])
+marks : (a t : ℕ) (s : List ℕ) → Unbroken (lettersIn a t s)
+unfolding lettersIn
+marks a t s = marked a t s (1 ∷ 2 ∷ 3 ∷ 4 ∷ 5 ∷ 6 ∷ 7 ∷ 8 ∷ 9 ∷ 10 ∷ 11 ∷ 12 ∷ 13 ∷ 14 ∷ [])
 
 -- a byte that is shown: as it is, it is past 0x20; else by its digits
 digit : (n : ℕ) → hexDigit n ≡ 10 → ⊥
@@ -107,9 +105,8 @@ unfolding shownWords
 words [] = fixed (ascii "%-") tt
 words (b ∷ w) = shown-bytes (b ∷ w)
 
-text : (a : ℕ) (s : List ℕ) → Unbroken (shownText a s)
-unfolding shownText
-text a s = chosen Unbroken (heldBack a s) (fixed (ascii "%!") tt) (words (textOf (aged a s)))
+text : (held : Bool) (w : List ℕ) → Unbroken (shownUnless held w)
+text held w = chosen Unbroken held (fixed (ascii "%!") tt) (words w)
 
 -- what stands between the parts of a line
 pub gap : Unbroken space
@@ -117,9 +114,9 @@ gap = fixed space tt
 
 -- the line of a record
 pub record-ended : (a i p : ℕ) (r : List ℕ) → Ended (recordLine a i p r)
-unfolding recordLine
+unfolding laidOut
 record-ended a i p r = record {
   front = _;
   is = refl;
-  unbroken = both (both (both (both (both (both (both (both (number i) gap) (number p)) gap) (number (sizeOf r))) gap) (marks a r)) gap) (text a r);
+  unbroken = both (both (both (both (both (both (both (both (number i) gap) (number p)) gap) (number (sizeOf r))) gap) (marks a (taken r) r)) gap) (text (heldBack a r) (textOf (aged a r)));
 }

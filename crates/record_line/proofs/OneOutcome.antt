@@ -8,6 +8,6 @@ use Rattle.buffer.proofs.OneOutcome.{one-outcome}
 use Rattle.record_line.specs.RecordLine.{recordLineOf}
 
 -- of `record_line`: the answer and the lent bytes are fixed
-pub one-record-line : (a index place : ℕ) (bytes old : List ℕ) {r s : Written} {x y : List ℕ}
-    → outcome r x ≡ recordLineOf a index place bytes old → outcome s y ≡ recordLineOf a index place bytes old → (r ≡ s) × (x ≡ y)
-one-record-line a index place bytes old p q = one-outcome p q
+pub one-record-line : (a index offset : ℕ) (bytes old : List ℕ) {r s : Written} {x y : List ℕ}
+    → outcome r x ≡ recordLineOf a index offset bytes old → outcome s y ≡ recordLineOf a index offset bytes old → (r ≡ s) × (x ≡ y)
+one-record-line a index offset bytes old p q = one-outcome p q

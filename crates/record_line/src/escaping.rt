@@ -22,7 +22,7 @@ fn is_visible(b: u8) -> bool
 }
 
 // Puts a byte of a text.
-fn put_shown_byte(out: &mut [u8], at: usize, b: u8) -> usize
+fn put_shown_byte(b: u8, at: usize, out: &mut [u8]) -> usize
     ensures { λ r. ⌜ Put (now (out .entry)) at (escaped b) (now (out .exit)) r ⌝ }
 {
     if is_visible(b) {
@@ -37,20 +37,20 @@ fn put_shown_byte(out: &mut [u8], at: usize, b: u8) -> usize
 }
 
 // Puts the bytes of a text.
-fn put_escaped(out: &mut [u8], at: usize, text: &[u8]) -> usize
+fn put_escaped(text: &[u8], at: usize, out: &mut [u8]) -> usize
     ensures { λ r. ⌜ Put (now (out .entry)) at (escapedAll (now (text .entry))) (now (out .exit)) r ⌝ }
 {
     let mut o = at;
     let mut j = 0;
     while j < text.len() {
-        o = put_shown_byte(out, o, text[j]);
+        o = put_shown_byte(text[j], o, out);
         j += 1;
     }
     o
 }
 
 // Puts the text of a record.
-pub fn put_shown(out: &mut [u8], at: usize, r: ResTableConfig) -> usize
+pub fn put_shown(r: ResTableConfig, at: usize, out: &mut [u8]) -> usize
     ensures { λ n. ⌜ Put (now (out .entry)) at (shownWords (textOf r)) (now (out .exit)) n ⌝ }
 {
     let mut own = [0u8; 344];
@@ -58,5 +58,5 @@ pub fn put_shown(out: &mut [u8], at: usize, r: ResTableConfig) -> usize
     if n == 0 {
         return put(out, at, b"%-");
     }
-    put_escaped(out, at, &own[..n])
+    put_escaped(&own[..n], at, out)
 }

@@ -5,7 +5,6 @@ use mathlib.Core.List.{List}
 use lib.ListN.{length}
 use Rattle.answers.specs.declared.Told.{Told}
 use Rattle.answers.specs.declared.Written.{Written}
-use Rattle.answers.specs.Numbers.{numberOf}
 use Rattle.answers.specs.Tells.{success, refusal, takenTells, writtenTells}
 use Rattle.buffer.specs.Written.{Outcome, outcome}
 use Rattle.order.specs.declared.Ordering.{Ordering}
@@ -37,7 +36,7 @@ module _ (s : List ℕ) (p : Parsed) (t : Told) (e : parsedOutcome p ≡ parseOf
   tells-is = f ∙ ap (λ (o : ParseOutcome). o .tells) e ∙ parse-tells s
 
   -- it was refused: the same is told by every call, whatever a whole record gives
-  pub refused-told : (give : Told) → (t .number ≡ 0 → ⊥) → t ≡ ifWhole s (λ why. refusal (numberOf why)) give
+  pub refused-told : (give : Told) → (t .number ≡ 0 → ⊥) → t ≡ ifWhole s refusal give
   refused-told give d =
       elim (amounts s) [
         | takes n e ↦ absurd (d (ap (λ (u : Told). u .number) (tells-is ∙ sym e)))
@@ -68,8 +67,8 @@ module _ (a b : List ℕ) (x : Parsed) (t : Told) (e : parsedOutcome x ≡ parse
     both-read w o r p q =
         rw (
           q,
-          whole-took a (λ why. refusal (numberOf why)) (ifWhole b (λ why. refusal (numberOf why)) _) (whole a x t e f z),
-          whole-took b (λ why. refusal (numberOf why)) (success (orderingTells (orderOf (plain a) (plain b)))) (whole b y u g h w),
+          whole-took a refusal (ifWhole b refusal _) (whole a x t e f z),
+          whole-took b refusal (success (orderingTells (orderOf (plain a) (plain b)))) (whole b y u g h w),
           ← read-plain a x t e f z,
           ← read-plain b y u g h w,
           ← p,

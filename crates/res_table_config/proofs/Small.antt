@@ -7,7 +7,6 @@ use native.Mathlib.Omega.{arith}
 use lib.Dec.{leb, lit<}
 use lib.ListN.{length}
 use Rattle.answers.specs.declared.Refusal.{Refusal}
-use Rattle.answers.specs.Numbers.{numberOf}
 use Rattle.answers.specs.Tells.{success, refusal}
 use Rattle.answers.proofs.OneToOne.{number-most}
 use Rattle.answers.proofs.Says.{chosen}
@@ -26,7 +25,7 @@ use Rattle.text.proofs.Ranges.{part-below, plain-long, aged-long}
 use Rattle.res_table_config.specs.Face.{orderTold}
 use Rattle.res_table_config.specs.Small.{Small}
 
-refusal-small : (why : Refusal) → Small (refusal (numberOf why))
+refusal-small : (why : Refusal) → Small (refusal why)
 refusal-small why = record { number = omega (arith, number-most why); amount = lit< tt; bare = λ d. refl }
 
 success-small : (n : ℕ) → n < 4294967296 → Small (success n)
@@ -75,7 +74,7 @@ aged-small a s old bytes =
 pub marks-small : (a : ℕ) (s old : List ℕ) → Small (marksOutcome a s old .tells)
 marks-small a s old =
     by-age Tells _ _ refusal-small a
-    (by-whole Tells _ _ refusal-small s (λ whole. written-small (marksOf a s) old (omega (arith, marks-length a s))))
+    (by-whole Tells _ _ refusal-small s (λ whole. written-small (marksOf a s) old (omega (arith, marks-length a (taken s) s))))
 
 pub ordering-most : (o : Ordering) → orderingTells o < 4294967296
 ordering-most Ordering.Less = lit< tt

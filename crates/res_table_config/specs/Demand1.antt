@@ -7,4 +7,4 @@ use Rattle.res_table_config.specs.Face.{orderTold}
 
 -- `res_table_config_order`: 1, 2 of the first, then 1, 2 of the second
 abbrev pub OrderRefuses : List ℕ → List ℕ → Type 0
-OrderRefuses a b = Exactly (fewerThan16 a ∷ fewerThanSize a ∷ fewerThan16 b ∷ fewerThanSize b ∷ []) (orderTold a b .number)
+OrderRefuses a b = Exactly (fewerThan16 a ∷ fewerThanSize a ∷ fewerThan16 b ∷ fewerThanSize b ∷ []) (orderTold a b)

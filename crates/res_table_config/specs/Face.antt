@@ -2,7 +2,6 @@
 use Prim.Native.Nat.{ℕ, _/_, _%_}
 use mathlib.Core.List.{List}
 use Rattle.answers.specs.declared.Told.{Told}
-use Rattle.answers.specs.Numbers.{numberOf}
 use Rattle.answers.specs.Tells.{success, refusal}
 use Rattle.buffer.specs.Written.{Outcome}
 use Rattle.order.specs.Order.{orderOf, orderingTells}
@@ -19,5 +18,5 @@ answerOutcome r buffer = record { tells = answerTells r; leaves = buffer }
 -- the order of the records at the front of a and of b: the first one's refusal comes before any of the second's
 abbrev pub orderTold : List ℕ → List ℕ → Told
 orderTold a b =
-    ifWhole a (λ why. refusal (numberOf why))
-    (ifWhole b (λ why. refusal (numberOf why)) (success (orderingTells (orderOf (plain a) (plain b)))))
+    ifWhole a refusal
+    (ifWhole b refusal (success (orderingTells (orderOf (plain a) (plain b)))))

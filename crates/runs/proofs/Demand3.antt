@@ -4,21 +4,17 @@ use mathlib.Core.Path.{_≡_, sym, ap, _∙_}
 use mathlib.Core.Bool.{true}
 use mathlib.Core.List.{List}
 use native.Mathlib.Omega.{arith}
-use lib.Dec.{eqb}
 use lib.ListN.{length, getD, drop}
-use Rattle.answers.specs.declared.Told.{Told}
-use Rattle.answers.specs.Tells.{refusal}
 use Rattle.record.specs.Ages.{isAge}
 use Rattle.reading.specs.Reading.{taken}
 use Rattle.reading.proofs.TwoAges.{aged-alike}
-use Rattle.runs.specs.Runs.{reasonAt}
-use Rattle.runs.specs.Finds.{findsOf}
+use Rattle.runs.specs.Fronts.{stopAt, stopTells}
+use Rattle.runs.specs.Runs.{frontAt, findsOf}
 use Rattle.runs.specs.Demand3.{OfRecord, Demand3}
-use Rattle.runs.proofs.Stops.{each-whole}
-use Rattle.runs.proofs.Finding.{finds-are, stands-are, last-tells}
+use Rattle.runs.proofs.Records.{each-whole, finds-are, stands-are, last-none, last-tells}
 use Rattle.runs.proofs.Showing.{parse-plain, step-gives, same-marks, shows-zero, zero-shows, shows-plain, newer-shows, byte-refuses}
 
--- of a place where a whole record stands
+-- of an offset where a whole record stands
 of-record : (s : List ℕ) (q older newer : ℕ) (x y : List ℕ) → older ≤ newer → isAge older ≡ true → isAge newer ≡ true → length x ≡ length y
     → taken (drop q s) ≤ length (drop q s) → OfRecord s q older newer x y
 of-record s q a b x y rising older newer even whole =
@@ -42,8 +38,8 @@ demand-3 s p a b x y rising older newer even =
       places = finds-are a s (sym older) p ∙ sym (finds-are b s (sym newer) p);
       stop = stands-are a s (sym older) p ∙ sym (stands-are b s (sym newer) p);
       stopped = (
-        last-tells a s (sym older) p ∙ ap (λ (q : ℕ). refusal (reasonAt s q)) (sym (stands-are a s (sym older) p)),
-        ap (λ (t : Told). eqb (t .amount) 1) (last-tells a s (sym older) p),
+        last-tells a s (sym older) p ∙ ap (λ (q : ℕ). stopTells (stopAt (frontAt s) q)) (sym (stands-are a s (sym older) p)),
+        last-none a s (sym older) p,
       );
       reason = last-tells a s (sym older) p ∙ sym (last-tells b s (sym newer) p);
       each = λ i h. of-record s (getD (findsOf a s p) i 0) a b x y rising older newer even (whole i h);

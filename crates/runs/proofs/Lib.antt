@@ -1,9 +1,7 @@
 pub mod Rest
-pub mod Steps
+pub mod Fronts
+pub mod Records
 pub mod Exactly
-pub mod Walking
-pub mod Stops
-pub mod Finding
 pub mod Showing
 pub mod Demand3
 pub mod OneOutcome

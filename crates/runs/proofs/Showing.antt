@@ -12,8 +12,8 @@ use Rattle.buffer.proofs.Writing.{written-fits}
 use Rattle.record.specs.Ages.{isAge}
 use Rattle.record.specs.Table.{endOf}
 use Rattle.reading.specs.Reading.{ParseOutcome, parseOf, plain, aged, taken}
-use Rattle.reading.proofs.Whole.{whole-took, age-known, took-is}
-use Rattle.marking.specs.Marks.{marksOutcome, marksOf, markOf, heldBack}
+use Rattle.reading.proofs.Whole.{whole-took, age-known}
+use Rattle.marking.specs.Marks.{marksOutcome, letterOf, marksOf, markOf, heldBack}
 use Rattle.marking.proofs.Marking.{marks-length, mark-at}
 use Rattle.marking.proofs.TwoAges.{same-mark, shown-later}
 use Rattle.marking.proofs.HeldBack.{held-exactly, shown-zero}
@@ -21,10 +21,11 @@ use Rattle.places.specs.Places.{textOf}
 use Rattle.text.specs.Text.{plainText, agedText}
 use Rattle.text.proofs.Exactly.{aged-exactly}
 use Rattle.text.proofs.Same.{shown-text}
-use Rattle.runs.specs.Runs.{StepOutcome, stepOf}
+use Rattle.record.specs.declared.ResTableConfig.{ResTableConfig}
+use Rattle.runs.specs.Fronts.{StepOutcome}
+use Rattle.runs.specs.Runs.{stepOf}
 use Rattle.runs.specs.Demand3.{Shows, ZeroFrom}
-use Rattle.runs.proofs.Steps.{step-found}
-use Rattle.runs.proofs.Walking.{fits}
+use Rattle.runs.proofs.Records.{front-whole, step-found}
 
 module _ (t : List ℕ) (whole : taken t ≤ length t) where
   pub parse-plain : parseOf t .gives ≡ plain t
@@ -35,7 +36,7 @@ module _ (t : List ℕ) (whole : taken t ≤ length t) where
 
   module _ (a : ℕ) (age : isAge a ≡ true) where
     marks-are : (old : List ℕ) → 14 ≤ length old → marksOutcome a t old ≡ wrote (marksOf a t) old
-    marks-are old h = age-known a _ _ (sym age) ∙ whole-took t _ _ whole ∙ written-fits (marksOf a t) old (omega (arith, marks-length a t))
+    marks-are old h = age-known a _ _ (sym age) ∙ whole-took t _ _ whole ∙ written-fits (marksOf a t) old (omega (arith, marks-length a (taken t) t))
 
     text-by : (old : List ℕ) (b : Bool) → heldBack a t ≡ b → agedText a t old ≡ cond b (refused Refusal.HeldBack old) (written (textOf (aged a t)) old)
     text-by old b e = age-known a _ _ (sym age) ∙ whole-took t _ _ whole ∙ rw e
@@ -45,12 +46,12 @@ module _ (t : List ℕ) (whole : taken t ≤ length t) where
     shown-is old e = text-by old false e ∙ ap (λ (w : List ℕ). written w old) (shown-text a t age whole e)
 
     -- the mark of field f where it is written
-    mark-left : (old : List ℕ) → 14 ≤ length old → (f : ℕ) → 1 ≤ f → f ≤ 14 → getD (marksOutcome a t old .leaves) (f - 1) 0 ≡ markOf a t f
+    mark-left : (old : List ℕ) → 14 ≤ length old → (f : ℕ) → 1 ≤ f → f ≤ 14 → getD (marksOutcome a t old .leaves) (f - 1) 0 ≡ letterOf (markOf a t f)
     mark-left old h f l m =
         let e : f - 1 + 1 ≡ f = omega arith in
-        let g : f - 1 < length (marksOf a t) = omega (arith, marks-length a t) in
+        let g : f - 1 < length (marksOf a t) = omega (arith, marks-length a (taken t) t) in
         ap (λ (o : Outcome). getD (o .leaves) (f - 1) 0) (marks-are old h) ∙ List·getD-append (marksOf a t) _ 0 (f - 1) g
-        ∙ mark-at a t (f - 1) (omega arith) ∙ ap (markOf a t) e
+        ∙ mark-at a (taken t) t (f - 1) (omega arith) ∙ ap (λ (g : ℕ). letterOf (markOf a t g)) e
 
     -- a text that is shown: nothing is held back, and the text fits
     shows-fits : (old : List ℕ) → Shows (agedText a t old) → (heldBack a t ≡ false) × (length (textOf (plain t)) ≤ length old)
@@ -90,7 +91,7 @@ module _ (t : List ℕ) (whole : taken t ≤ length t) where
   module _ (a b : ℕ) (rising : a ≤ b) (older : isAge a ≡ true) (newer : isAge b ≡ true) where
     pub same-marks : (m n : List ℕ) → 14 ≤ length m → 14 ≤ length n → (f : ℕ) → 1 ≤ f → f ≤ 14 → endOf f ≤ a
         → getD (marksOutcome a t m .leaves) (f - 1) 0 ≡ getD (marksOutcome b t n .leaves) (f - 1) 0
-    same-marks m n h k f l u e = mark-left a older m h f l u ∙ same-mark a b t rising f e ∙ sym (mark-left b newer n k f l u)
+    same-marks m n h k f l u e = mark-left a older m h f l u ∙ ap letterOf (same-mark a b t rising f e) ∙ sym (mark-left b newer n k f l u)
 
     -- what the older shows the newer shows too
     pub newer-shows : (x y : List ℕ) → length x ≡ length y → Shows (agedText a t x) → agedText b t y ≡ wrote (textOf (plain t)) y
@@ -101,5 +102,4 @@ module _ (t : List ℕ) (whole : taken t ≤ length t) where
 -- the record that a step gives where a whole record stands
 pub step-gives : (a : ℕ) (s : List ℕ) (p : ℕ) → isAge a ≡ true → taken (drop p s) ≤ length (drop p s) → stepOf a s p .gives ≡ aged a (drop p s)
 step-gives a s p age whole =
-    let e = took-is (drop p s) (taken (drop p s)) refl whole in
-    ap (λ (o : StepOutcome). o .gives) (step-found a s p (sym age) (λ h. omega (arith, fits s p _ e)) _ e)
+    ap (λ (o : StepOutcome ResTableConfig). o .gives) (step-found a s (sym age) p (taken (drop p s)) (front-whole s p whole))

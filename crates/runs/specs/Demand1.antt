@@ -12,4 +12,4 @@ abbrev pub StepRefuses : ℕ → List ℕ → ℕ → Type 0
 StepRefuses a s p =
     Exactly
     (notAnAge a ∷ unless (eqb p (length s)) (fewerThan16 (drop p s)) ∷ unless (eqb p (length s)) (fewerThanSize (drop p s)) ∷ [])
-    (stepOf a s p .tells .number)
+    (stepOf a s p .tells)

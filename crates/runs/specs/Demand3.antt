@@ -5,7 +5,6 @@ use mathlib.Core.Bool.{true, false}
 use mathlib.Core.List.{List}
 use lib.ListN.{length, getD, drop}
 use Rattle.answers.specs.declared.Refusal.{Refusal}
-use Rattle.answers.specs.Tells.{refusal}
 use Rattle.buffer.specs.Written.{Outcome, wrote, refused}
 use Rattle.record.specs.Ages.{isAge}
 use Rattle.record.specs.Table.{endOf}
@@ -14,8 +13,8 @@ use Rattle.reading.specs.Demand3.{Alike}
 use Rattle.marking.specs.Marks.{marksOutcome}
 use Rattle.places.specs.Places.{textOf}
 use Rattle.text.specs.Text.{plainText, agedText}
-use Rattle.runs.specs.Runs.{stepOf, reasonAt}
-use Rattle.runs.specs.Finds.{found, findsOf, standsOf, lastOf}
+use Rattle.runs.specs.Fronts.{stopAt, stopTells, found}
+use Rattle.runs.specs.Runs.{frontAt, stepOf, findsOf, standsOf, lastOf}
 
 -- a call that shows a text succeeds
 abbrev pub Shows : Outcome → Type 0
@@ -25,7 +24,7 @@ Shows o = o .tells .number ≡ 0
 abbrev pub ZeroFrom : ℕ → List ℕ → Type 0
 ZeroFrom a t = (k : ℕ) → a ≤ k → k < taken t → getD t k 0 ≡ 0
 
--- what the demand says of the record at place q of s, with buffers x and y of equal length for the texts
+-- what the demand says of the record at offset q of s, with buffers x and y of equal length for the texts
 pub record OfRecord (s : List ℕ) (q older newer : ℕ) (x y : List ℕ) : Type 0 where
   -- Fields both know have the values demand 2's parsing gives,
   pub older-values : Alike older (stepOf older s q .gives) (parseOf (drop q s) .gives)
@@ -49,8 +48,8 @@ pub record OfRun (s : List ℕ) (p older newer : ℕ) (x y : List ℕ) : Type 0 
   pub places : findsOf older s p ≡ findsOf newer s p
   -- and stop at the same byte
   pub stop : standsOf older s p ≡ standsOf newer s p
-  -- (each has stopped there: its next step finds no record, and the number is 0 at the exact end, else the parse refusal's)
-  pub stopped : (lastOf older s p .tells ≡ refusal (reasonAt s (standsOf older s p))) × (found (lastOf older s p) ≡ false)
+  -- (each has stopped there: its next step finds no record, and tells why the run stops)
+  pub stopped : (lastOf older s p .tells ≡ stopTells (stopAt (frontAt s) (standsOf older s p))) × (found (lastOf older s p) ≡ false)
   -- for the same reason.
   pub reason : lastOf older s p .tells ≡ lastOf newer s p .tells
   -- Of each record that they find:

@@ -4,7 +4,6 @@ use mathlib.Core.Path.{_≡_}
 use mathlib.Core.List.{List}
 use lib.ListN.{length, getD, drop}
 use Rattle.answers.specs.declared.Refusal.{Refusal}
-use Rattle.answers.specs.Numbers.{numberOf}
 use Rattle.answers.specs.Tells.{refusal}
 use Rattle.reading.specs.Reading.{amountOf, taken}
 use Rattle.runs.specs.Runs.{offsetsOf, stopOf}
@@ -12,7 +11,7 @@ use Rattle.runs.specs.Runs.{offsetsOf, stopOf}
 -- no whole record stands at the front of t
 pub record NotWhole (t : List ℕ) : Type 0 where
   pub why : Refusal
-  pub refused : refusal (numberOf why) ≡ amountOf t
+  pub refused : refusal why ≡ amountOf t
 
 -- of the run of s that begins at p: a whole record stands at each of its offsets, none where it stops, and it has at most one
 -- record for each 16 of the bytes there

@@ -1,4 +1,4 @@
-// Runs of records, end to end: a step at a place, the walk to where a run stops, and the calls at a place.
+// Runs of records, end to end: what stands at an offset, a step there, the walk to where a run stops, and the calls at an offset.
 use answers::Refusal;
 use answers::Taken;
 use answers::Told;
@@ -6,7 +6,7 @@ use answers::Written;
 use marking::marks;
 use reading::amount;
 use reading::lesser;
-use reading::parse_aged;
+use reading::read_to;
 use record::Age;
 use record::ResTableConfig;
 use record::blank;
@@ -16,30 +16,60 @@ ghost use lib.ListN.{drop};
 ghost use Rattle.buffer.specs.Written.{outcome};
 ghost use Rattle.marking.specs.Marks.{marksOutcome};
 ghost use Rattle.text.specs.Text.{agedText};
-ghost use Rattle.runs.specs.Runs.{runOf, stepOf, stepOutcome, stepStays, stepTells};
+ghost use Rattle.runs.specs.Fronts.{stepTells, stopTells};
+ghost use Rattle.runs.specs.Runs.{frontAt, runOf, stepOf, stepOutcome, stepStays};
 
-// The answer of a step.
-pub enum Step {
-    // A record stands at the place.
-    Found,
-    // The place is the exact end of the bytes.
+// Why a run stops.
+pub enum Stop {
+    // At the exact end of the bytes.
     Ended,
-    // No record stands there that is whole, or the age is none.
+    // What stands there is refused.
     Refused(Refusal),
 }
 
-// The answer of a step, the place where the next one goes on, and the record, which holds nothing where none was found.
+// What stands at an offset of a run.
+pub enum Front {
+    // Something whole that takes so many bytes.
+    Takes(usize),
+    // Nothing that is whole: the run stops.
+    Stops(Stop),
+}
+
+// The answer of a step.
+pub enum Step {
+    // A record stands at the offset.
+    Found,
+    // The run stops there, or the age is none.
+    Stopped(Stop),
+}
+
+// The answer of a step, the offset where the next one goes on, and the record, which holds nothing where none was found.
 pub struct Stepped {
     pub answer: Step,
     pub next: usize,
     pub record: ResTableConfig,
 }
 
-// How many records a run has, where it stops, and with which number.
+// How many records a run has, where it stops, and why.
 pub struct RunEnd {
     pub records: usize,
-    pub stop: usize,
-    pub number: u32,
+    pub offset: usize,
+    pub stop: Stop,
+}
+
+impl Stop {
+    // What the stop tells in 01's numbers.
+    pub fn told(self) -> Told
+        ensures { λ r. ⌜ r ≡ stopTells self ⌝ }
+    {
+        match self {
+            Self::Ended => Told {
+                number: 0,
+                amount: 0,
+            },
+            Self::Refused(why) => why.told(),
+        }
+    }
 }
 
 impl Step {
@@ -52,93 +82,93 @@ impl Step {
                 number: 0,
                 amount: 1,
             },
-            Self::Ended => Told {
-                number: 0,
-                amount: 0,
-            },
-            Self::Refused(why) => why.told(),
+            Self::Stopped(stop) => stop.told(),
         }
     }
 }
 
-// What a step gives that finds no record at a place.
-fn stays(place: usize, answer: Step) -> Stepped
-    ensures { λ r. ⌜ stepOutcome r ≡ stepStays place (stepTells answer) ⌝ }
+// What stands at an offset of bytes: a whole record, or the stop of a run.
+pub fn front_at(bytes: &[u8], offset: usize) -> Front
+    ensures { λ r. ⌜ r ≡ frontAt (now (bytes .entry)) offset ⌝ }
+{
+    if offset == bytes.len() {
+        return Front::Stops(Stop::Ended);
+    }
+    let from = lesser(offset, bytes.len());
+    match amount(&bytes[from..]) {
+        Taken::Took(n) => Front::Takes(n),
+        Taken::Refused(why) => Front::Stops(Stop::Refused(why)),
+    }
+}
+
+// What a step gives that finds no record at an offset.
+fn stays(offset: usize, stop: Stop) -> Stepped
+    ensures { λ r. ⌜ stepOutcome r ≡ stepStays offset (stopTells stop) ⌝ }
 {
     let record = blank();
     Stepped {
-        answer,
-        next: place,
+        answer: Step::Stopped(stop),
+        next: offset,
         record,
     }
 }
 
-// Reads the record at a place for a reader of an age.
-pub fn step_at(bytes: &[u8], place: usize, age: Age) -> Stepped
-    ensures { λ r. ⌜ stepOutcome r ≡ stepOf (age .0) (now (bytes .entry)) place ⌝ }
+// Reads the record at an offset for a reader of an age.
+pub fn step_at(bytes: &[u8], offset: usize, age: Age) -> Stepped
+    ensures { λ r. ⌜ stepOutcome r ≡ stepOf (age .0) (now (bytes .entry)) offset ⌝ }
 {
     if !age.is_age() {
-        return stays(place, Step::Refused(Refusal::NotAnAge));
+        return stays(offset, Stop::Refused(Refusal::NotAnAge));
     }
-    if place == bytes.len() {
-        return stays(place, Step::Ended);
-    }
-    let from = lesser(place, bytes.len());
-    let parsed = parse_aged(&bytes[from..], age);
-    let answer = parsed.answer;
-    let record = parsed.record;
-    match answer {
-        Taken::Took(n) => Stepped {
-            answer: Step::Found,
-            next: place + n,
-            record,
-        },
-        Taken::Refused(why) => stays(place, Step::Refused(why)),
+    match front_at(bytes, offset) {
+        Front::Takes(n) => {
+            let limit = lesser(n, age.0 as usize);
+            let record = read_to(&bytes[offset..], limit);
+            Stepped {
+                answer: Step::Found,
+                next: offset + n,
+                record,
+            }
+        }
+        Front::Stops(stop) => stays(offset, stop),
     }
 }
 
-// Walks the run that begins at a place to where it stops.
-pub fn walk(bytes: &[u8], place: usize) -> RunEnd
-    ensures { λ r. ⌜ r ≡ runOf (now (bytes .entry)) place ⌝ }
+// Walks the run that begins at an offset to where it stops.
+pub fn walk(bytes: &[u8], offset: usize) -> RunEnd
+    ensures { λ r. ⌜ r ≡ runOf (now (bytes .entry)) offset ⌝ }
 {
-    let mut stop = place;
+    let mut here = offset;
     let mut records = 0;
-    while stop < bytes.len() {
-        match amount(&bytes[stop..]) {
-            Taken::Took(n) => {
-                stop += n;
+    loop {
+        match front_at(bytes, here) {
+            Front::Takes(n) => {
+                here += n;
                 records += 1;
             }
-            Taken::Refused(why) => {
-                let number = why.number();
+            Front::Stops(stop) => {
                 return RunEnd {
                     records,
+                    offset: here,
                     stop,
-                    number,
                 };
             }
         }
     }
-    let number = if stop == bytes.len() { 0 } else { 1 };
-    RunEnd {
-        records,
-        stop,
-        number,
-    }
 }
 
-// Writes the text of the record at a place for a reader of an age.
-pub fn text_at(bytes: &[u8], place: usize, age: Age, out: &mut [u8]) -> Written
-    ensures { λ r. ⌜ outcome r (now (out .exit)) ≡ agedText (age .0) (drop place (now (bytes .entry))) (now (out .entry)) ⌝ }
+// Writes the text of the record at an offset for a reader of an age.
+pub fn text_at(bytes: &[u8], offset: usize, age: Age, out: &mut [u8]) -> Written
+    ensures { λ r. ⌜ outcome r (now (out .exit)) ≡ agedText (age .0) (drop offset (now (bytes .entry))) (now (out .entry)) ⌝ }
 {
-    let from = lesser(place, bytes.len());
+    let from = lesser(offset, bytes.len());
     aged_text(&bytes[from..], age, out)
 }
 
-// Writes the fourteen marks of the record at a place for a reader of an age.
-pub fn marks_at(bytes: &[u8], place: usize, age: Age, out: &mut [u8]) -> Written
-    ensures { λ r. ⌜ outcome r (now (out .exit)) ≡ marksOutcome (age .0) (drop place (now (bytes .entry))) (now (out .entry)) ⌝ }
+// Writes the fourteen marks of the record at an offset for a reader of an age.
+pub fn marks_at(bytes: &[u8], offset: usize, age: Age, out: &mut [u8]) -> Written
+    ensures { λ r. ⌜ outcome r (now (out .exit)) ≡ marksOutcome (age .0) (drop offset (now (bytes .entry))) (now (out .entry)) ⌝ }
 {
-    let from = lesser(place, bytes.len());
+    let from = lesser(offset, bytes.len());
     marks(&bytes[from..], age, out)
 }

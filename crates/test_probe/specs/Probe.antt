@@ -8,6 +8,7 @@ use Rattle.record.specs.Blank.{withSize}
 use Rattle.reading.specs.Reading.{ifWhole, plain}
 use Rattle.writing.specs.Writing.{writeOf}
 use Rattle.runs.specs.declared.RunEnd.{RunEnd}
+use Rattle.runs.specs.Fronts.{stopTells}
 use Rattle.lines.specs.declared.Cursor.{Cursor}
 
 -- an answer and a lent buffer are what an outcome tells, packed, and leaves
@@ -16,9 +17,9 @@ Comes r buffer o = (r ≡ packedOf (o .tells)) × (buffer ≡ o .leaves)
 
 -- where a run stops, packed under its number
 abbrev pub endPacked : RunEnd → ℕ
-endPacked e = packedOf (record { number = e .number; amount = e .stop })
+endPacked e = packedOf (record { number = stopTells (e .stop) .number; amount = e .offset })
 
--- where a listing goes on: a record's place, packed under its index; the greatest number behind the last line, and one less at
+-- where a listing goes on: a record's offset, packed under its index; the greatest number behind the last line, and one less at
 -- the start
 abbrev pub cursorPacked : Cursor → ℕ
 cursorPacked Cursor.Start = 18446744073709551614

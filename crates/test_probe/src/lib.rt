@@ -59,16 +59,16 @@ pub extern "C" fn probe_order(a: &[u8], b: &[u8]) -> u32
     order.number()
 }
 
-// A cursor as one number: a record's place under its index, or one of the two greatest.
+// A cursor as one number: a record's offset under its index, or one of the two greatest.
 fn cursor_packed(cursor: Cursor) -> u64
     ensures { λ r. ⌜ r ≡ cursorPacked cursor ⌝ }
 {
     match cursor {
         Cursor::Start => 18446744073709551614,
-        Cursor::Record { index, place } => {
+        Cursor::Record { index, offset } => {
             let told = Told {
                 number: (index % 4294967296) as u32,
-                amount: place,
+                amount: offset,
             };
             told.packed()
         }
@@ -86,18 +86,18 @@ pub extern "C" fn probe_first_line(bytes: &[u8], age: u32, out: &mut [u8]) -> u6
     answer.told().packed()
 }
 
-// Writes the line of the record of an index at a place in a listing of bytes at an age, or where none stands there the last one.
+// Writes the line of the record of an index at an offset in a listing of bytes at an age, or where none stands there the last one.
 #[no_mangle]
 pub extern "C" fn probe_line(
     bytes: &[u8],
     age: u32,
     index: usize,
-    place: usize,
+    offset: usize,
     out: &mut [u8],
 ) -> u64
-    ensures { λ r. ⌜ Comes r (now (out .exit)) (lineOf age (now (bytes .entry)) (Cursor.Record index place) (now (out .entry)) .does) ⌝ }
+    ensures { λ r. ⌜ Comes r (now (out .exit)) (lineOf age (now (bytes .entry)) (Cursor.Record index offset) (now (out .entry)) .does) ⌝ }
 {
-    let lined = line(bytes, Age(age), Cursor::Record { index, place }, out);
+    let lined = line(bytes, Age(age), Cursor::Record { index, offset }, out);
     let answer = lined.answer;
     answer.told().packed()
 }
@@ -108,36 +108,37 @@ pub extern "C" fn probe_next(
     bytes: &[u8],
     age: u32,
     index: usize,
-    place: usize,
+    offset: usize,
     out: &mut [u8],
 ) -> u64
-    ensures { λ r. ⌜ r ≡ cursorPacked (lineOf age (now (bytes .entry)) (Cursor.Record index place) (now (out .entry)) .goes) ⌝ }
-    ensures { λ _. ⌜ now (out .exit) ≡ lineOf age (now (bytes .entry)) (Cursor.Record index place) (now (out .entry)) .does .leaves ⌝ }
+    ensures { λ r. ⌜ r ≡ cursorPacked (lineOf age (now (bytes .entry)) (Cursor.Record index offset) (now (out .entry)) .goes) ⌝ }
+    ensures { λ _. ⌜ now (out .exit) ≡ lineOf age (now (bytes .entry)) (Cursor.Record index offset) (now (out .entry)) .does .leaves ⌝ }
 {
-    let lined = line(bytes, Age(age), Cursor::Record { index, place }, out);
+    let lined = line(bytes, Age(age), Cursor::Record { index, offset }, out);
     let cursor = lined.cursor;
     cursor_packed(cursor)
 }
 
-// Where the run of bytes that begins at a place stops, under the number with which it does.
+// Where the run of bytes that begins at an offset stops, under the number with which it does.
 #[no_mangle]
-pub extern "C" fn probe_walk(bytes: &[u8], place: usize) -> u64
-    ensures { λ r. ⌜ r ≡ endPacked (runOf (now (bytes .entry)) place) ⌝ }
+pub extern "C" fn probe_walk(bytes: &[u8], offset: usize) -> u64
+    ensures { λ r. ⌜ r ≡ endPacked (runOf (now (bytes .entry)) offset) ⌝ }
 {
-    let end = walk(bytes, place);
+    let end = walk(bytes, offset);
+    let stop = end.stop;
     let told = Told {
-        number: end.number,
-        amount: end.stop,
+        number: stop.told().number,
+        amount: end.offset,
     };
     told.packed()
 }
 
-// How many records the run of bytes that begins at a place has.
+// How many records the run of bytes that begins at an offset has.
 #[no_mangle]
-pub extern "C" fn probe_records(bytes: &[u8], place: usize) -> usize
-    ensures { λ r. ⌜ r ≡ runOf (now (bytes .entry)) place .records ⌝ }
+pub extern "C" fn probe_records(bytes: &[u8], offset: usize) -> usize
+    ensures { λ r. ⌜ r ≡ runOf (now (bytes .entry)) offset .records ⌝ }
 {
-    let end = walk(bytes, place);
+    let end = walk(bytes, offset);
     end.records
 }
 

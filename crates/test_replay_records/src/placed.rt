@@ -1,4 +1,4 @@
-// What the port answers to each kind of question on a place of a run, by its tag. A payload is the age in four bytes, the place
+// What the port answers to each kind of question on an offset of a run, by its tag. A payload is the age in four bytes, the offset
 // in eight, how many bytes are lent in four, the lent bytes, and the run.
 use crate::records::put_amount;
 use crate::records::put_fields;
@@ -8,6 +8,7 @@ use reader::RunReader;
 use record::Age;
 use runs::Stepped;
 ghost use mathlib.Core.Path.{_≡_};
+ghost use Rattle.record.specs.Ages.{defaultAge};
 ghost use Rattle.runs.specs.Runs.{stepOf, stepOutcome};
 
 // Where the lent bytes stand in an answer, behind what the call tells.
@@ -19,32 +20,32 @@ pub(crate) fn answer(tag: u8, payload: &[u8], out: &mut [u8]) -> usize {
         return 0;
     }
     let age = Age((test_frames::four(payload) % 4294967296) as u32);
-    let place = test_frames::eight(&payload[4..]);
+    let offset = test_frames::eight(&payload[4..]);
     let lent = test_frames::four(&payload[12..]);
     let behind = &payload[16..];
     let n = test_frames::front(lent, behind);
     match tag {
-        37..=39 => put_stepped(out, stepped(tag, &behind[n..], place, age)),
-        40 => held(&behind[n..], place, age, out),
-        41 | 42 => wrote(tag, &behind[n..], place, age, &behind[..n], out),
+        37..=39 => put_stepped(out, stepped(tag, &behind[n..], offset, age)),
+        40 => held(&behind[n..], offset, age, out),
+        41 | 42 => wrote(tag, &behind[n..], offset, age, &behind[..n], out),
         _ => 0,
     }
 }
 
-// The step at a place: by itself, through a reader made there, and through one of age 64 that is moved there.
-fn stepped(tag: u8, bytes: &[u8], place: usize, age: Age) -> Stepped {
+// The step at an offset: by itself, through a reader made there, and through one of the default age that is moved there.
+fn stepped(tag: u8, bytes: &[u8], offset: usize, age: Age) -> Stepped {
     match tag {
-        37 => runs::step_at(bytes, place, age),
-        38 => reader::read_at(bytes, place, age),
-        _ => sought(bytes, place),
+        37 => runs::step_at(bytes, offset, age),
+        38 => reader::read_at(bytes, offset, age),
+        _ => sought(bytes, offset),
     }
 }
 
-// Reads the record at a place through a reader that is made without one and moved there.
-fn sought(bytes: &[u8], place: usize) -> Stepped
-    ensures { λ r. ⌜ stepOutcome r ≡ stepOf 64 (now (bytes .entry)) place ⌝ }
+// Reads the record at an offset through a reader that is made without one and moved there.
+fn sought(bytes: &[u8], offset: usize) -> Stepped
+    ensures { λ r. ⌜ stepOutcome r ≡ stepOf defaultAge (now (bytes .entry)) offset ⌝ }
 {
-    RunReader::new(bytes).moved(place).next()
+    RunReader::new(bytes).moved(offset).next()
 }
 
 // Puts what a step tells, where the next one goes on, and the record.
@@ -56,30 +57,30 @@ fn put_stepped(out: &mut [u8], stepped: Stepped) -> usize {
     put_fields(out, at, record)
 }
 
-// Whether the record at a place is held back.
-fn held(bytes: &[u8], place: usize, age: Age, out: &mut [u8]) -> usize {
-    let from = test_frames::front(place, bytes);
+// Whether the record at an offset is held back.
+fn held(bytes: &[u8], offset: usize, age: Age, out: &mut [u8]) -> usize {
+    let from = test_frames::front(offset, bytes);
     let held = marking::held_back(&bytes[from..], age);
     put_told(out, held.told())
 }
 
 // What a call that writes tells, and the lent bytes as it leaves them.
-fn wrote(tag: u8, bytes: &[u8], place: usize, age: Age, lent: &[u8], out: &mut [u8]) -> usize {
+fn wrote(tag: u8, bytes: &[u8], offset: usize, age: Age, lent: &[u8], out: &mut [u8]) -> usize {
     let end = buffer::put(out, LENT, lent);
     let n = test_frames::front(end, out);
     if n < LENT {
         return 0;
     }
-    let answer = written(tag, bytes, place, age, &mut out[LENT..n]);
+    let answer = written(tag, bytes, offset, age, &mut out[LENT..n]);
     put_told(out, answer.told());
     n
 }
 
-// Writes the text or the marks of the record at a place.
-fn written(tag: u8, bytes: &[u8], place: usize, age: Age, out: &mut [u8]) -> Written {
+// Writes the text or the marks of the record at an offset.
+fn written(tag: u8, bytes: &[u8], offset: usize, age: Age, out: &mut [u8]) -> Written {
     match tag {
-        41 => runs::text_at(bytes, place, age, out),
-        _ => runs::marks_at(bytes, place, age, out),
+        41 => runs::text_at(bytes, offset, age, out),
+        _ => runs::marks_at(bytes, offset, age, out),
     }
 }
 

@@ -5,8 +5,10 @@ use mathlib.Core.Bool.{true}
 use mathlib.Core.List.{List, [], _∷_}
 use mathlib.Core.Logic.{_↔_}
 use lib.ListN.{length}
+use Rattle.answers.specs.declared.Refusal.{Refusal}
+use Rattle.answers.specs.Tells.{refusal}
 use Rattle.answers.specs.Demand1.{NoneOf}
-use Rattle.answers.proofs.Exactly.{one-more, number-exactly}
+use Rattle.answers.proofs.Exactly.{one-more, refusal-exactly}
 use Rattle.buffer.specs.Demand1.{shorterThan}
 use Rattle.buffer.proofs.Exactly.{written-row, refuses-by}
 use Rattle.reading.specs.Reading.{plain, aged}
@@ -28,7 +30,7 @@ aged-exactly a s old = refuses-by refl (age-row a (whole-row s (one-more (isHeld
 
 -- so 4 is given exactly when the record is held back at one of the twelve ages, and whole
 pub four-exactly : (a : ℕ) (s old : List ℕ)
-    → (agedText a s old .tells .number ≡ 4) ↔ (NoneOf (notAnAge a ∷ fewerThan16 s ∷ fewerThanSize s ∷ []) × (heldBack a s ≡ true))
+    → (agedText a s old .tells ≡ refusal Refusal.HeldBack) ↔ (NoneOf (notAnAge a ∷ fewerThan16 s ∷ fewerThanSize s ∷ []) × (heldBack a s ≡ true))
 four-exactly a s old =
-    number-exactly (isHeldBack a s) (shorterThan (length (textOf (aged a s))) old ∷ []) tt
+    refusal-exactly (isHeldBack a s) (shorterThan (length (textOf (aged a s))) old ∷ []) tt
     (notAnAge a ∷ fewerThan16 s ∷ fewerThanSize s ∷ []) tt _ (aged-exactly a s old .exactly)

@@ -35,7 +35,7 @@ module _ (p : ℕ → Bool) (s : List ℕ) (f : ℕ) where
       (omega (arith, length-take (widthOf f) (drop (startOf f) s))) (omega (arith, length-replicate {A = ℕ} (widthOf f) 0))
 
   -- and its number is as small as they make it
-  field-below : Bytes s → le (fieldBy p s f) < 256 ^ widthOf f
+  pub field-below : Bytes s → le (fieldBy p s f) < 256 ^ widthOf f
   unfolding fieldBy
   field-below h =
       chosen (λ (w : List ℕ). le w < 256 ^ widthOf f) (p f)
@@ -54,11 +54,15 @@ module _ (p : ℕ → Bool) (s : List ℕ) (h : Bytes s) where
     sized = record { word = field-below p s 2 h; script = field-wide p s 9; variant = field-wide p s 10; numbering = field-wide p s 13 };
   }
 
+-- no text is longer of what is read of some bytes, whichever fields are
+pub read-long : (p : ℕ → Bool) (s : List ℕ) → Bytes s → length (textOf (recordBy p s)) ≤ 344
+read-long p s h = ranged-long _ (ranged p s h)
+
 -- no text of what the plain reading gives is longer, nor of what a reader of an age gives
 pub plain-long : (s : List ℕ) → Bytes s → length (textOf (plain s)) ≤ 344
 unfolding plain
-plain-long s h = ranged-long _ (ranged _ s h)
+plain-long s h = read-long _ s h
 
 pub aged-long : (a : ℕ) (s : List ℕ) → Bytes s → length (textOf (aged a s)) ≤ 344
 unfolding aged
-aged-long a s h = ranged-long _ (ranged _ s h)
+aged-long a s h = read-long _ s h

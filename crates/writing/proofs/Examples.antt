@@ -4,6 +4,7 @@ use mathlib.Core.Path.{_≡_, refl}
 use mathlib.Core.Bool.{Bool, true, false}
 use mathlib.Core.List.{List, [], _∷_, _++_}
 use lib.ListN.{replicate}
+use Rattle.answers.specs.declared.Refusal.{Refusal}
 use Rattle.answers.specs.Tells.{success, refusal}
 use Rattle.buffer.specs.Written.{written}
 use Rattle.record.specs.declared.ResTableConfig.{ResTableConfig}
@@ -45,14 +46,14 @@ pub examples :
     -- size 44 holds the script, and none of the variant: zeros stand where it would begin
     × (writeOf (sample 44 latin (replicate 8 0) false) (sevens 44)
     ≡ record { tells = success 44; leaves = 44 ∷ 0 ∷ 0 ∷ 0 ∷ 54 ∷ 1 ∷ replicate 30 0 ++ latin ++ replicate 4 0 })
-    × (writeOf (sample 44 latin (0 ∷ 1 ∷ replicate 6 0) false) (sevens 44) ≡ record { tells = refusal 6; leaves = sevens 44 })
+    × (writeOf (sample 44 latin (0 ∷ 1 ∷ replicate 6 0) false) (sevens 44) ≡ record { tells = refusal Refusal.UnreadField; leaves = sevens 44 })
     -- 6 comes before 5
-    × (writeOf (sample 44 latin (0 ∷ 1 ∷ replicate 6 0) false) (sevens 3) ≡ record { tells = refusal 6; leaves = sevens 3 })
-    × (writeOf (sample 48 latin (0 ∷ 1 ∷ replicate 6 0) false) (sevens 47) ≡ record { tells = refusal 5; leaves = sevens 47 })
+    × (writeOf (sample 44 latin (0 ∷ 1 ∷ replicate 6 0) false) (sevens 3) ≡ record { tells = refusal Refusal.UnreadField; leaves = sevens 3 })
+    × (writeOf (sample 48 latin (0 ∷ 1 ∷ replicate 6 0) false) (sevens 47) ≡ record { tells = refusal Refusal.ShortBuffer; leaves = sevens 47 })
     -- yes is 1, where size holds it
     × (writeOf (sample 53 latin (replicate 8 0) true) (sevens 53)
     ≡ record { tells = success 53; leaves = 53 ∷ 0 ∷ 0 ∷ 0 ∷ 54 ∷ 1 ∷ replicate 30 0 ++ latin ++ replicate 12 0 ++ (1 ∷ []) })
-    × (writeOf (sample 52 latin (replicate 8 0) true) (sevens 53) ≡ record { tells = refusal 6; leaves = sevens 53 })
+    × (writeOf (sample 52 latin (replicate 8 0) true) (sevens 53) ≡ record { tells = refusal Refusal.UnreadField; leaves = sevens 53 })
     -- past 64 there are zeros
     × (writeOf (sample 65 latin (replicate 8 0) false) (sevens 66)
     ≡ record { tells = success 65; leaves = 65 ∷ 0 ∷ 0 ∷ 0 ∷ 54 ∷ 1 ∷ replicate 30 0 ++ latin ++ replicate 25 0 ++ sevens 1 })

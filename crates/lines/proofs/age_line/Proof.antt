@@ -14,9 +14,14 @@ use Rattle.lines.proofs.age_line.Tie as tie
 returns : tie.Need-returns
 unfolding ageLine
 returns c =
-    let a = c .before .before .before .before .before .before .before .before .before .before .before .before .args .age .0 in
+    let write = c .before .before in
+    let own = write .before .before .before in
+    let put-between = own .before in
+    let put-between-arg = put-between .before .before .before in
+    let start = put-between-arg .before .before .before in
+    let a = start .args .age .0 in
     let l = age-long 9 a (decimal-long 9 a (omega arith)) in
-    c .before .before .write .ensures ∙ copied _ (omega (arith, l)) (c .before .before .before .before .before .before .put-between .ensures)
+    write .write .ensures ∙ copied _ (omega (arith, l)) (put-between .put-between .ensures)
 
 pub age-line-spec : {M : Type 1} → statement M
 age-line-spec =

@@ -1,8 +1,9 @@
 -- The line is put together in a buffer of its own, which holds it, and then written. Assumes nothing.
-use mathlib.Core.Path.{sym, _∙_}
+use mathlib.Core.Path.{sym, ap, _∙_}
 use native.Mathlib.Omega.{arith}
 use lib.Seq.{length-take-le}
 use borrow.Author.Needs.{needs}
+use Rattle.answers.specs.declared.Told.{Told}
 use Rattle.buffer.proofs.Digits.{decimal-long}
 use Rattle.buffer.proofs.Putting.{put-put, put-most}
 use Rattle.buffer.proofs.Writing.{copied}
@@ -14,22 +15,39 @@ use Rattle.lines.proofs.stop_line.Tie as tie
 returns : tie.Need-returns
 unfolding stopLine
 returns c =
-    let s = c .before .before .before .before .before .before .before .before .before .before .before .before .before .before .before .before .before in
-    let p = s .args .place in
-    let n = s .args .number in
-    let a = c .before .before .before .before .before .before .before .before .before .before .before .before .put-between .ensures in
-    let b = c .before .before .before .before .before .before .before .before .before .put-decimal .ensures in
-    let l = stop-long 19 9 p n (decimal-long 19 p (omega arith)) (decimal-long 9 n (omega arith)) in
-    c .before .before .write .ensures
-    ∙ copied _ (omega (arith, l)) (put-put (put-put a b) (c .before .before .before .before .before .before .put-byte .ensures))
+    let write = c .before .before in
+    let own6 = write .before .before .before in
+    let put-byte = own6 .before in
+    let put-decimal = put-byte .before .before .before in
+    let put-between = put-decimal .before .before .before in
+    let own = put-between .before .before .before in
+    let told = own .before in
+    let start = told .before .before in
+    let a = start .args in
+    let n = ap (λ (t : Told). t .number) (told .told .ensures) in
+    let l = stop-long 19 (a .offset) (a .stop) (decimal-long 19 (a .offset) (omega arith)) in
+    write .write .ensures
+    ∙ copied _ (omega (arith, l))
+    (rw n at (put-put (put-put (put-between .put-between .ensures) (put-decimal .put-decimal .ensures)) (put-byte .put-byte .ensures)))
 
 pub stop-line-spec : {M : Type 1} → statement M
 stop-line-spec =
     tie.close
     (tie.spec
-    (λ c. search needs) (λ c. search needs) (λ c. search needs) (λ c κs. search needs) (λ c. search needs) (λ c κs. search needs)
-    (λ c. search needs) (λ c κs. search needs)
-    (λ c. put-most (put-put (put-put (c .before .before .before .before .before .before .before .before .put-between .ensures) (c .before .before .before .before .before .put-decimal .ensures)) (c .before .before .put-byte .ensures)) (search needs) .1)
-    (λ c. sym (length-take-le _ _ (put-most (put-put (put-put (c .before .before .before .before .before .before .before .before .before .put-between .ensures) (c .before .before .before .before .before .before .put-decimal .ensures)) (c .before .before .before .put-byte .ensures)) (search needs) .1)))
+    (λ c κs. tt) (λ c. search needs) (λ c. search needs) (λ c. search needs) (λ c κs. search needs) (λ c. search needs) (λ c. search needs)
+    (λ c κs. search needs) (λ c. search needs) (λ c κs. search needs)
+    (λ c.
+    let put-byte = c .before .before in
+    let put-decimal = put-byte .before .before .before in
+    let put-between = put-decimal .before .before .before in
+    put-most (put-put (put-put (put-between .put-between .ensures) (put-decimal .put-decimal .ensures)) (put-byte .put-byte .ensures))
+    (search needs) .1)
+    (λ c.
+    let put-byte = c .before .before .before in
+    let put-decimal = put-byte .before .before .before in
+    let put-between = put-decimal .before .before .before in
+    sym (length-take-le _ _
+    (put-most (put-put (put-put (put-between .put-between .ensures) (put-decimal .put-decimal .ensures))
+    (put-byte .put-byte .ensures)) (search needs) .1)))
     (λ c κs. search needs) (λ c. search needs)
     returns)

@@ -4,10 +4,22 @@ use borrow.Author.Needs.{needs}
 use Rattle.record_line.proofs.put_unless_held.Statement.{statement}
 use Rattle.record_line.proofs.put_unless_held.Tie as tie
 
+returns : tie.Need-returns
+returns c =
+    let put = c .before .before in
+    let if1 = put .before .before .before in
+    let late-bytes = if1 .before in
+    rw (sym (late-bytes .late-bytes .ensures) ∙ if1 .if1 .taken) (put .put .ensures)
+
+returns-2 : tie.Need-returns-2
+returns-2 c =
+    let put-shown = c .before .before in
+    let if1 = put-shown .before .before in
+    let late-bytes = if1 .before in
+    rw (sym (late-bytes .late-bytes .ensures) ∙ if1 .if1 .left) (put-shown .put-shown .ensures)
+
 pub put-unless-held-spec : {M : Type 1} → statement M
 put-unless-held-spec =
     tie.close
     (tie.spec
-    (λ c. search needs) (λ c κs. search needs) (λ c. search needs) (λ c κs. search needs) (λ c κs. search needs) (λ c. search needs)
-    (λ c. rw (sym (c .before .before .before .before .before .before .late-bytes .ensures) ∙ c .before .before .before .before .before .if1 .taken) (c .before .before .put .ensures)) (λ c. search needs)
-    (λ c. rw (sym (c .before .before .before .before .before .late-bytes .ensures) ∙ c .before .before .before .before .if1 .left) (c .before .before .put-shown .ensures)))
+    (λ c κs. tt) (λ c. search needs) (λ c κs. search needs) (λ c κs. search needs) (λ c. search needs) returns (λ c. search needs) returns-2)

@@ -1,28 +1,42 @@
--- Parsing refuses, or the line of the record that it gives is written. Assumes nothing.
-use denote.Ref.{now}
+-- 3, then the refusals of `amount`, then the line is written. Assumes nothing.
+use mathlib.Core.Path.{_≡_, sym, ap, _∙_}
 use borrow.Author.Needs.{needs}
-use Rattle.record_line.proofs.Answers.{given, line-written, line-refused}
+use borrow.Author.Tests.{not-true, not-false}
+use denote.Ref.{now}
+use Rattle.answers.specs.Tells.{takenTells}
+use Rattle.reading.proofs.Whole.{age-unknown}
+use Rattle.marking.proofs.Answering.{refuses}
+use Rattle.record_line.proofs.Answers.{line-written}
 use Rattle.record_line.proofs.record_line.Statement.{statement}
 use Rattle.record_line.proofs.record_line.Tie as tie
 
-write-record-requires : tie.Need-write-record-requires
-write-record-requires c κs =
-    given (c .before .before .before .before .before .before .before .before .args .age .0) (now (c .before .before .before .before .before .before .before .before .args .bytes)) (c .before .before .before .before .before .parse-aged .result) (c .before .before .before .before .before .parse-aged .ensures) _ (c .before .before .answer .given .1)
-
 returns : tie.Need-returns
-returns c =
-    line-written (c .before .before .before .before .before .before .before .before .before .before .before .args .age .0) (now (c .before .before .before .before .before .before .before .before .before .before .before .args .bytes)) (c .before .before .before .before .before .before .before .before .parse-aged .result) (c .before .before .before .before .before .before .before .before .parse-aged .ensures) _ (c .before .before .before .before .before .answer .given .1) _ _ _ _ (c .before .before .write-record .ensures)
+returns c = sym (age-unknown _ _ _ (sym (not-true _ (c .if1 .taken)) ∙ c .before .is-age .ensures))
 
 returns-2 : tie.Need-returns-2
 returns-2 c =
-    line-refused (c .before .before .before .before .before .before .before .args .age .0) (now (c .before .before .before .before .before .before .before .args .bytes)) (c .before .before .before .before .parse-aged .result) (c .before .before .before .before .parse-aged .ensures) _ _ _ _ (c .before .answer2 .given .1)
+    let write = c .before .before in
+    let took = write .before .before .before in
+    let amount = took .before .before in
+    let known = amount .before in
+    let is-age = known .before in
+    let a = is-age .before .before .before .args in
+    line-written (a .age .0) (now (a .bytes)) (sym (not-false _ (known .if1 .left)) ∙ is-age .is-age .ensures) (a .index) (a .offset) _ _ _
+    (sym (ap takenTells (took .t .given .1)) ∙ amount .amount .ensures) (write .write-line .ensures)
+
+returns-3 : tie.Need-returns-3
+returns-3 c =
+    let refused = c .before in
+    let amount = refused .before .before in
+    let known = amount .before in
+    let is-age = known .before in
+    let a = is-age .before .before .before .args in
+    sym (refuses _ (now (a .bytes)) _ _ (sym (not-false _ (known .if1 .left)) ∙ is-age .is-age .ensures) (refused .why .given .0 .0)
+    (sym (ap takenTells (refused .why .given .1)) ∙ amount .amount .ensures))
 
 pub record-line-spec : {M : Type 1} → statement M
 record-line-spec =
     tie.close
     (tie.spec
-    (λ c κs. search needs) (λ c. search needs)
-    write-record-requires
-    (λ c. search needs) (λ c. search needs)
-    returns
-    returns-2)
+    (λ c κs. tt) returns (λ c κs. tt) (λ c. search needs) (λ c κs. search needs) (λ c. search needs) (λ c. search needs)
+    returns-2 returns-3)

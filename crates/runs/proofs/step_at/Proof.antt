@@ -1,32 +1,73 @@
--- 3 first, the exact end, then what parsing the bytes from the place on answers. Assumes nothing.
-use mathlib.Core.Path.{sym, _∙_}
+-- 3 first; then what stands at the offset. Assumes nothing.
+use Prim.Native.Nat.{ℕ, _+_}
+use mathlib.Core.Path.{_≡_, sym, ap, _∙_}
 use native.Mathlib.Omega.{arith}
-use lib.ListN.{drop, length-drop}
+use borrow.Author.Needs.{needs}
 use borrow.Author.Tests.{not-true, not-false}
 use denote.Ref.{now}
-use Rattle.reading.proofs.Whole.{took-says}
-use Rattle.runs.proofs.Steps.{step-unknown, step-ended, step-found, step-refused, parse-took, parse-refused, parse-gives, found-is}
-use borrow.Author.Needs.{needs}
+use lib.ListN.{drop}
+use Rattle.record.specs.declared.ResTableConfig.{ResTableConfig}
+use Rattle.reading.specs.Reading.{readTo}
+use Rattle.reading.proofs.Limits.{read-aged}
+use Rattle.runs.specs.Fronts.{finds}
+use Rattle.runs.proofs.Rest.{rest-is}
+use Rattle.runs.proofs.Records.{front-fits, step-unknown, step-found, step-stopped}
 use Rattle.runs.proofs.step_at.Statement.{statement}
 use Rattle.runs.proofs.step_at.Tie as tie
+
+returns : tie.Need-returns
+returns c =
+    let unknown = c .before in
+    c .stays .ensures ∙ sym (step-unknown _ _ _ (sym (not-true _ (unknown .if1 .taken)) ∙ unknown .before .is-age .ensures))
+
+returns-2 : tie.Need-returns-2
+returns-2 c =
+    let limit = c .before .before in
+    let took = limit .before .before .before in
+    let front = took .before .before in
+    let known = front .before in
+    let is-age = known .before in
+    let a = is-age .before .before .args in
+    let s = now (a .bytes) in
+    let stands = sym (front .front-at .ensures) ∙ took .n .given .1 in
+    let fits = front-fits s (a .offset) _ stands in
+    let here = drop (a .offset) s in
+    let reads =
+    c .read-to .ensures ∙ ap (readTo (limit .lesser .result)) (rest-is s (a .offset))
+    ∙ ap (λ (m : ℕ). readTo m here) (limit .lesser .ensures) ∙ read-aged (a .age .0) _ here (fits .0) (fits .1) in
+    ap (λ (r : ResTableConfig). finds (a .offset + took .n .given .0 .0) r) reads
+    ∙ sym (step-found (a .age .0) s (sym (not-false _ (known .if1 .left)) ∙ is-age .is-age .ensures) (a .offset) _ stands)
+
+returns-3 : tie.Need-returns-3
+returns-3 c =
+    let stopped = c .before .before in
+    let front = stopped .before .before in
+    let known = front .before in
+    let is-age = known .before in
+    let a = is-age .before .before .args in
+    c .stays2 .ensures
+    ∙ sym (step-stopped (a .age .0) (now (a .bytes)) (sym (not-false _ (known .if1 .left)) ∙ is-age .is-age .ensures) (a .offset) _
+    (sym (front .front-at .ensures) ∙ stopped .stop .given .1))
+
+-- the record's bytes are there
+next : tie.Need-add-t14
+next c =
+    let took = c .before .before .before .before .before in
+    let front = took .before .before in
+    let a = front .before .before .before .before .args in
+    omega (arith, front-fits (now (a .bytes)) (a .offset) _ (sym (front .front-at .ensures) ∙ took .n .given .1))
+
+starts : tie.Need-sub-read-to
+starts c =
+    let took = c .before .before .before in
+    let front = took .before .before in
+    let a = front .before .before .before .before .args in
+    omega (arith, front-fits (now (a .bytes)) (a .offset) _ (sym (front .front-at .ensures) ∙ took .n .given .1))
 
 pub step-at-spec : {M : Type 1} → statement M
 step-at-spec =
     tie.close
     (tie.spec
-    (λ c κs. tt) (λ c κs. tt)
-    (λ c. c .stays .ensures ∙ sym (step-unknown _ _ _ (sym (not-true _ (c .before .if1 .taken)) ∙ c .before .before .is-age .ensures)))
-    (λ c κs. tt)
-    (λ c. c .stays2 .ensures ∙ sym (step-ended _ _ _ (sym (not-false _ (c .before .before .if1 .left)) ∙ c .before .before .before .is-age .ensures) (c .before .if2 .taken)))
-    (λ c κs. tt) (λ c. search needs) (λ c. search needs) (λ c. search needs) (λ c κs. tt) (λ c. search needs)
-    (λ c.
-    let s = now (c .before .before .before .before .before .before .before .before .before .before .before .args .bytes) in
-    let t = took-says (drop (c .before .before .before .before .before .before .before .before .before .before .before .args .place) s) _ (parse-took (c .before .before .before .before .before .before .before .before .before .before .before .args .age .0) (now (c .before .before .before .before .before .before .before .before .before .before .before .args .bytes)) (c .before .before .before .before .before .before .before .before .before .before .before .args .place) _ (sym (not-false _ (c .before .before .before .before .before .before .before .before .if1 .left)) ∙ c .before .before .before .before .before .before .before .before .before .is-age .ensures) (c .before .before .before .before .before .before .lesser .ensures) (c .before .before .before .before .parse-aged .result) (c .before .before .before .before .parse-aged .ensures) _ (c .before .answer .given .1)) in
-    omega (arith, t, length-drop (c .before .before .before .before .before .before .before .before .before .before .before .args .place) s))
-    (λ c. search needs) (λ c κs. tt)
-    (λ c.
-    found-is _ _ _ _ (parse-gives (c .before .before .before .before .before .before .before .before .before .before .before .args .age .0) (now (c .before .before .before .before .before .before .before .before .before .before .before .args .bytes)) (c .before .before .before .before .before .before .before .before .before .before .before .args .place) _ (sym (not-false _ (c .before .before .before .before .before .before .before .before .if1 .left)) ∙ c .before .before .before .before .before .before .before .before .before .is-age .ensures) (c .before .before .before .before .before .before .lesser .ensures) (c .before .before .before .before .parse-aged .result) (c .before .before .before .before .parse-aged .ensures) _ (c .before .answer .given .1))
-    ∙ sym (step-found (c .before .before .before .before .before .before .before .before .before .before .before .args .age .0) (now (c .before .before .before .before .before .before .before .before .before .before .before .args .bytes)) (c .before .before .before .before .before .before .before .before .before .before .before .args .place) (sym (not-false _ (c .before .before .before .before .before .before .before .before .if1 .left)) ∙ c .before .before .before .before .before .before .before .before .before .is-age .ensures) (c .before .before .before .before .before .before .before .if2 .left) _ (parse-took (c .before .before .before .before .before .before .before .before .before .before .before .args .age .0) (now (c .before .before .before .before .before .before .before .before .before .before .before .args .bytes)) (c .before .before .before .before .before .before .before .before .before .before .before .args .place) _ (sym (not-false _ (c .before .before .before .before .before .before .before .before .if1 .left)) ∙ c .before .before .before .before .before .before .before .before .before .is-age .ensures) (c .before .before .before .before .before .before .lesser .ensures) (c .before .before .before .before .parse-aged .result) (c .before .before .before .before .parse-aged .ensures) _ (c .before .answer .given .1))))
-    (λ c.
-    c .stays3 .ensures
-    ∙ sym (step-refused (c .before .before .before .before .before .before .before .before .before .before .before .before .args .age .0) (now (c .before .before .before .before .before .before .before .before .before .before .before .before .args .bytes)) (c .before .before .before .before .before .before .before .before .before .before .before .before .args .place) (sym (not-false _ (c .before .before .before .before .before .before .before .before .before .if1 .left)) ∙ c .before .before .before .before .before .before .before .before .before .before .is-age .ensures) (c .before .before .before .before .before .before .before .before .if2 .left) (c .before .before .answer2 .given .0 .0) (parse-refused (c .before .before .before .before .before .before .before .before .before .before .before .before .args .age .0) (now (c .before .before .before .before .before .before .before .before .before .before .before .before .args .bytes)) (c .before .before .before .before .before .before .before .before .before .before .before .before .args .place) _ (sym (not-false _ (c .before .before .before .before .before .before .before .before .before .if1 .left)) ∙ c .before .before .before .before .before .before .before .before .before .before .is-age .ensures) (c .before .before .before .before .before .before .before .lesser .ensures) (c .before .before .before .before .before .parse-aged .result) (c .before .before .before .before .before .parse-aged .ensures) _ (c .before .before .answer2 .given .1)))))
+    (λ c κs. tt) (λ c κs. tt) returns (λ c κs. tt) (λ c. search needs) (λ c. search needs) (λ c κs. tt)
+    starts (λ c. starts c) (λ c. search needs) (λ c κs. tt) next (λ c. search needs) (λ c κs. tt)
+    returns-2 returns-3)

@@ -1,5 +1,5 @@
 -- `RunReader::moved` meets its contract: a walk of its MIR, by hand. A reader is made anew of the bytes and the age of the one passed and of the
--- other place, and what that number owns takes the place of what the old one owned. Assumes nothing.
+-- other offset, and what that number owns takes the place of what the old one owned. Assumes nothing.
 use mathlib.Core.Path.{_≡_, refl}
 use Prim.Native.Nat.{ℕ}
 use mathlib.Core.List.{[], _∷_}
@@ -23,14 +23,14 @@ use denote.Triple.Entry.{Vals, onEntry}
 use Rattle.reader.specs.declared.RunReader.{RunReader}
 use Rattle.reader.specs.Reader.{readerAt}
 use Rattle.reader.proofs.ByHand.{Ensures, Quiet, Knowns, Walk, leaves, var, part, operand, sets, gone, kept}
-use Rattle.reader.proofs.ReaderLaws.{Row, Shape, Lawss, fieldsOf, Own, Held, place-known, reader-known}
+use Rattle.reader.proofs.ReaderLaws.{Row, Shape, Lawss, fieldsOf, Own, Held, offset-known, reader-known}
 use Rattle.reader.proofs.RunReader.Laws as T′
 use Rattle.reader.proofs.RunReader.moved as moved
 use Rattle.reader.proofs.RunReader.moved.Key.{name}
 use Rattle.reader.proofs.RunReader.moved.Statement as stated
 use Rattle.reader.proofs.RunReader.moved.Code as code
 
--- the reader d at place p
+-- the reader d at offset p
 abbrev to : RunReader → ℕ → RunReader
 to d p = readerAt (d .bytes) p (d .age)
 
@@ -43,7 +43,7 @@ module _ {M : Type 1} (𝓤 : URA M) (H : Heap 𝓤) (A : Atoms 𝓤) (mem : Mem
 
   module _ (W : Given 𝓤 H A) where
     abbrev known : (κs : Lfts 1) → Knowns 𝓤 H A (Row κs ∷ usize ∷ [])
-    known κs = (reader-known 𝓤 H A W κs, (place-known 𝓤 H A W, tt))
+    known κs = (reader-known 𝓤 H A W κs, (offset-known 𝓤 H A W, tt))
 
     module _ (κs : Lfts 1) (qs : Shares 1) (d : RunReader) (p : ℕ) where
       abbrev at : Vals moved.signature κs

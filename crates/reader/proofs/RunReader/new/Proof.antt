@@ -1,4 +1,4 @@
--- `RunReader::new` meets its contract: a walk of its MIR, by hand. A reader is made of the bytes passed, 0 and the age 64: what the two numbers
+-- `RunReader::new` meets its contract: a walk of its MIR, by hand. A reader is made of the bytes passed, 0 and the default age: what the two numbers
 -- own is had for nothing, and with what the bytes own it is what the reader owns. Assumes nothing.
 use mathlib.Core.Path.{_≡_, refl}
 use mathlib.Core.List.{List, [], _∷_}
@@ -38,7 +38,7 @@ use Rattle.reader.proofs.RunReader.new.Code as code
 quiet : Quiet new.ended
 quiet κs a = ((tt, tt), ((tt, tt), (tt, tt)))
 
--- the types of the place and the age
+-- the types of the offset and the age
 abbrev Numbers : List RattleType
 Numbers = usize ∷ G.the-row ∷ []
 

@@ -1,4 +1,4 @@
--- `RunReader::new_at` meets its contract: a walk of its MIR, by hand. A reader is made of the bytes, the place and the age passed, and what the
+-- `RunReader::new_at` meets its contract: a walk of its MIR, by hand. A reader is made of the bytes, the offset and the age passed, and what the
 -- three own together is what it owns. Assumes nothing.
 use mathlib.Core.Path.{_≡_, refl}
 use mathlib.Core.List.{[], _∷_}

@@ -13,10 +13,10 @@ use Rattle.record_line.proofs.escaping.put_escaped.Statement.{statement
 use Rattle.record_line.proofs.escaping.put_escaped.Tie as tie
 
 abbrev Inv-loop : tie.InvT-loop
-Inv-loop out₀ at text o₀ j₀ out o j = (j ≤ length text) × (length out ≡ length out₀) × Put out₀ at (escapedAll (take j text)) out o
+Inv-loop text at out₀ o₀ j₀ out o j = (j ≤ length text) × (length out ≡ length out₀) × Put out₀ at (escapedAll (take j text)) out o
 
 abbrev μ-loop : tie.MeasureT-loop
-μ-loop out₀ at text o₀ j₀ out o j = length text - j
+μ-loop text at out₀ o₀ j₀ out o j = length text - j
 
 loop-holds : tie.Need-loop-holds Inv-loop μ-loop
 unfolding escapedAll
@@ -24,8 +24,11 @@ loop-holds c = (search needs, search needs, put-nil)
 
 loop-again : tie.Need-loop-again Inv-loop μ-loop
 loop-again c =
-    let l = c .before .before .before .before .before .before .loop in
-    (omega arith, omega arith, rw add-one (escaped-turn _ (l .j) (omega arith) (l .inv .2) (c .before .before .put-shown-byte .ensures)))
+    let put-shown-byte = c .before .before in
+    let loop-test = put-shown-byte .before .before .before in
+    let loop = loop-test .before in
+    let l = loop .loop in
+    (omega arith, omega arith, rw add-one (escaped-turn _ (l .j) (omega arith) (l .inv .2) (put-shown-byte .put-shown-byte .ensures)))
 
 pub put-escaped-spec : {M : Type 1} → statement M
 put-escaped-spec =

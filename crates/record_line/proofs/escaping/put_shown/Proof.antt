@@ -11,15 +11,21 @@ use Rattle.record_line.proofs.escaping.put_shown.Tie as tie
 
 returns : tie.Need-returns
 returns c =
-    let s = c .before .before .before .before .before .before .before .before .before .before in
-    let l = text-long (s .args .r) _ (s .good .1 .1 .0) in
-    rw (shown-empty (omega (arith, l)) (c .before .before .before .before .before .before .before .put-text .ensures) (search needs)) (c .before .before .put .ensures)
+    let put = c .before .before in
+    let if1 = put .before .before .before in
+    let put-text = if1 .before .before in
+    let start = put-text .before .before .before in
+    let l = text-long (start .args .r) _ (start .good .0) in
+    rw (shown-empty (omega (arith, l)) (put-text .put-text .ensures) (search needs)) (put .put .ensures)
 
 returns-2 : tie.Need-returns-2
 returns-2 c =
-    let s = c .before .before .before .before .before .before .before .before .before .before in
-    let l = text-long (s .args .r) _ (s .good .1 .1 .0) in
-    rw (shown-held (omega (arith, l)) (c .before .before .before .before .before .before .before .put-text .ensures) (c .before .before .before .before .before .if1 .left)) (c .before .before .put-escaped .ensures)
+    let put-escaped = c .before .before in
+    let if1 = put-escaped .before .before .before in
+    let put-text = if1 .before .before in
+    let start = put-text .before .before .before in
+    let l = text-long (start .args .r) _ (start .good .0) in
+    rw (shown-held (omega (arith, l)) (put-text .put-text .ensures) (if1 .if1 .left)) (put-escaped .put-escaped .ensures)
 
 pub put-shown-spec : {M : Type 1} → statement M
 put-shown-spec =
@@ -27,7 +33,7 @@ put-shown-spec =
     (tie.spec
     (λ c. search needs) (λ c κs. search needs) (λ c. search needs) (λ c κs. search needs) (λ c. search needs)
     returns
-    (λ c. put-most (c .before .before .before .put-text .ensures) (search needs) .1)
-    (λ c. sym (length-take-le _ _ (put-most (c .before .before .before .before .put-text .ensures) (search needs) .1)))
+    (λ c. put-most (c .before .before .put-text .ensures) (search needs) .1)
+    (λ c. sym (length-take-le _ _ (put-most (c .before .before .before .put-text .ensures) (search needs) .1)))
     (λ c κs. search needs) (λ c. search needs)
     returns-2)

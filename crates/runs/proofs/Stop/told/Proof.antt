@@ -1,0 +1,12 @@
+-- The stop tells what its case does. Assumes nothing.
+use borrow.Author.Needs.{needs}
+use Rattle.runs.proofs.Stop.told.Statement.{statement}
+use Rattle.runs.proofs.Stop.told.Tie as tie
+
+pub told-spec : {M : Type 1} → statement M
+told-spec =
+    tie.close
+    (tie.spec
+    (λ c. search needs) (λ c. search needs) (λ c κs. tt)
+    (λ c. rw (c .enum-told .given .1))
+    (λ c. rw (c .before .before .self .given .1) (c .told .ensures)))
