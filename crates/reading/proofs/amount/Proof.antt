@@ -1,6 +1,5 @@
 -- `amount` takes T bytes where they are there. Assumes nothing.
 use native.Mathlib.Omega.{arith}
-use denote.Ref.{now}
 use mathlib.Core.Path.{sym}
 use Rattle.reading.proofs.Whole.{whole-short, whole-cut, took-is}
 use borrow.Author.Needs.{needs}

@@ -1,5 +1,4 @@
 -- At 64 all is known. Assumes nothing.
-use denote.Ref.{now}
 use Rattle.reading.proofs.Limits.{aged-plain}
 use borrow.Author.Needs.{needs}
 use Rattle.reading.proofs.parse.Statement.{statement}

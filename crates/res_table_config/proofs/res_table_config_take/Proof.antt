@@ -1,6 +1,5 @@
 -- What `amount` answers, told and packed. Assumes nothing.
 use mathlib.Core.Path.{_∙_}
-use denote.Ref.{now}
 use Rattle.res_table_config.proofs.Small.{take-small}
 use Rattle.res_table_config.proofs.Answers.{fits}
 use Rattle.res_table_config.proofs.res_table_config_take.Statement.{statement}

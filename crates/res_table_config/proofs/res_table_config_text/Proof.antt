@@ -1,5 +1,4 @@
 -- What `plain_text` answers, told and packed. Assumes nothing.
-use denote.Ref.{now}
 use Rattle.res_table_config.proofs.Small.{text-small}
 use Rattle.res_table_config.proofs.Answers.{written-fits, written-told}
 use borrow.Author.Needs.{needs}

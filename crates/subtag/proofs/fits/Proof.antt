@@ -1,5 +1,5 @@
 -- `fits` takes the room that each front needs. The invariant: the rest fits what is left exactly when all fits the room. Assumes nothing.
-use Prim.Native.Nat.{_+_, _-_, _≤_}
+use Prim.Native.Nat.{_-_, _≤_}
 use mathlib.Core.Path.{_≡_, refl, sym, _∙_}
 use native.Mathlib.Omega.{arith}
 use borrow.Author.Needs.{needs}

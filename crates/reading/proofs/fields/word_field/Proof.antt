@@ -1,5 +1,4 @@
 -- Field f is the number of its bytes where it ends within the limit, and 0 where not. Assumes nothing.
-use denote.Ref.{now}
 use mathlib.Core.Path.{sym, ap, _∙_}
 use Rattle.record.specs.Table.{le}
 use Rattle.reading.proofs.FieldBytes.{read-is, zero-is}

@@ -1,5 +1,4 @@
 -- Field f is yes when its byte is not 0 and it ends within the limit. Assumes nothing.
-use denote.Ref.{now}
 use mathlib.Core.Path.{sym, ap}
 use mathlib.Core.Bool.{not, and-true}
 use mathlib.Core.List.{List}
