@@ -15,7 +15,7 @@ use Rattle.places.specs.Say.{say, dashAfter, sayAll}
 use Rattle.places.specs.Places.{placesOf, textOf}
 use Rattle.record.specs.Ages.{isAge}
 use Rattle.reading.specs.Reading.{reads, fieldBy, recordBy, aged, ifWhole, ifAge}
-use Rattle.marking.specs.Marks.{markIn, lettersIn, heldBack}
+use Rattle.marking.specs.Marks.{markBetween, lettersIn, heldBack}
 use Rattle.runs.specs.Fronts.{offsetsIn, stopIn}
 use Rattle.runs.specs.Runs.{frontAt}
 use Rattle.record_line.specs.RecordLine.{visible, escaped, escapedAll, shownWords, newline, laidOut}
@@ -54,5 +54,5 @@ pub examples :
     × (lineOf 64 given (Cursor.Record 1 16) (replicate 24 7) ≡ lineRefused Refusal.ShortBuffer (Cursor.Record 1 16) (replicate 24 7))
     × (lineOf 64 given (Cursor.Record 1 16) (replicate 26 7)
     ≡ record { does = wrote (ascii "1 16 0 BBBAAAAAAAAAAA %-" ++ newline) (replicate 26 7); goes = Cursor.Record 2 32 })
-unfolding listingOf recordLines offsetsIn stopIn frontAt lineOf lineAt after written ageLine stopLine laidOut shownWords escapedAll escaped visible lettersIn markIn heldBack isAge ifAge ifWhole aged recordBy fieldBy reads textOf placesOf sayAll say dashAfter localeWords newWords legacyWords unpacked subtagOf dropNuls keep replaced replacedBy frontOf okAt decimal digits
+unfolding listingOf recordLines offsetsIn stopIn frontAt lineOf lineAt after written ageLine stopLine laidOut shownWords escapedAll escaped visible lettersIn markBetween heldBack isAge ifAge ifWhole aged recordBy fieldBy reads textOf placesOf sayAll say dashAfter localeWords newWords legacyWords unpacked subtagOf dropNuls keep replaced replacedBy frontOf okAt decimal digits
 examples = (refl, refl, refl, refl, refl, refl)

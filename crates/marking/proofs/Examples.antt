@@ -9,7 +9,7 @@ use Rattle.buffer.specs.Ascii.{ascii}
 use Rattle.buffer.specs.Written.{written, wrote, refused}
 use Rattle.record.specs.Ages.{isAge}
 use Rattle.reading.specs.Reading.{ifWhole, ifAge}
-use Rattle.marking.specs.Marks.{markIn, lettersIn, marksOf, marksOutcome, heldBack, heldOf}
+use Rattle.marking.specs.Marks.{markBetween, lettersIn, marksOf, marksOutcome, heldBack, heldOf}
 
 -- the listing's first record
 abbrev listed : List ℕ
@@ -44,5 +44,5 @@ pub examples :
     × (marksOutcome 64 (17 ∷ replicate 15 0) (7 ∷ []) ≡ refused Refusal.FewerThanSize (7 ∷ []))
     × (marksOutcome 64 listed (replicate 13 7) ≡ refused Refusal.ShortBuffer (replicate 13 7))
     × (marksOutcome 64 listed (replicate 15 7) ≡ wrote (ascii "FFFAAAAAAAAAAA") (replicate 15 7))
-unfolding ifWhole ifAge isAge heldBack lettersIn markIn written
+unfolding ifWhole ifAge isAge heldBack lettersIn markBetween written
 examples = (refl, refl, refl, refl, refl, refl, refl, refl, refl, refl, refl, refl, refl, refl, refl, refl, refl)

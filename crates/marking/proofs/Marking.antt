@@ -1,5 +1,5 @@
 -- The cases of a mark, and the marks one by one. Assumes nothing.
-use Prim.Native.Nat.{ℕ, zero, suc, _+_, _≤_, _<_}
+use Prim.Native.Nat.{ℕ, zero, suc, _+_, _-_, _≤_, _<_}
 use mathlib.Core.Path.{_≡_, refl, sym, ap, _∙_}
 use mathlib.Core.Bool.{Bool, true, false, not, cond}
 use mathlib.Core.List.{List, [], _∷_, map}
@@ -10,38 +10,37 @@ use native.Mathlib.Decide.{decLe}
 use lib.Dec.{eqb, leb, ltb, eqb→eq}
 use lib.ListN.{length, getD, take}
 use borrow.Author.Tests.{lt-ltb, le-ltb, le-leb, lt-leb}
-use Rattle.record.specs.Table.{part, allZero, startOf, endOf, widthOf}
+use Rattle.record.specs.Table.{part, allZero, endOf}
 use Rattle.buffer.specs.Put.{Put}
 use Rattle.buffer.proofs.Putting.{put-turn}
 use Rattle.reading.specs.Reading.{reads, sizeOf, taken}
 use Rattle.reading.proofs.Limits.{reads-is}
 use Rattle.reading.proofs.Rows.{in-row}
 use Rattle.marking.specs.declared.Mark.{Mark}
-use Rattle.marking.specs.Marks.{letterOf, markIn, lettersIn, lateBytes}
+use Rattle.marking.specs.Marks.{letterOf, markBetween, markIn, lettersIn, lateBytes}
 use Rattle.marking.proofs.Zeros.{drop-take}
 
 cond-not : {A : Type 0} (b : Bool) (x y : A) → cond (not b) x y ≡ cond b y x
 cond-not true x y = refl
 cond-not false x y = refl
 
-module _ (a t : ℕ) (s : List ℕ) (f : ℕ) where
+module _ (a t : ℕ) (s : List ℕ) (start end : ℕ) where
   -- its end is past a
-  pub mark-unknown : a < endOf f → Mark.Unknown ≡ markIn a t s f
-  unfolding markIn
-  mark-unknown h = simp (lt-ltb a (endOf f) h)
+  pub mark-unknown : a < end → Mark.Unknown ≡ markBetween a t s start end
+  unfolding markBetween
+  mark-unknown h = simp (lt-ltb a end h)
 
-  module _ (h : endOf f ≤ a) where
+  module _ (h : end ≤ a) where
     -- the record doesn't hold it
-    pub mark-absent : t < endOf f → Mark.Absent ≡ markIn a t s f
-    unfolding markIn
-    mark-absent g = simp (le-ltb a (endOf f) h, lt-ltb t (endOf f) g)
+    pub mark-absent : t < end → Mark.Absent ≡ markBetween a t s start end
+    unfolding markBetween
+    mark-absent g = simp (le-ltb a end h, lt-ltb t end g)
 
     -- the record holds it: one of its bytes isn't zero, or all are
-    pub mark-held : endOf f ≤ t → cond (lateBytes s (endOf f) (startOf f)) Mark.Filled Mark.Blank ≡ markIn a t s f
-    unfolding markIn
+    pub mark-held : end ≤ t → cond (lateBytes s end start) Mark.Filled Mark.Blank ≡ markBetween a t s start end
+    unfolding markBetween
     mark-held g =
-        simp (le-ltb a (endOf f) h, le-ltb t (endOf f) g, drop-take (startOf f) (endOf f) s)
-        (cond-not (allZero (part s (startOf f) (widthOf f))) Mark.Filled Mark.Blank)
+        simp (le-ltb a end h, le-ltb t end g, drop-take start end s) (cond-not (allZero (part s start (end - start))) Mark.Filled Mark.Blank)
 
 -- of a whole record, "doesn't hold it" is "doesn't read it"
 pub absent-unread : (s : List ℕ) (f : ℕ) → f < 15 → ltb (taken s) (endOf f) ≡ not (reads (sizeOf s) f)

@@ -9,7 +9,7 @@ use lib.Dec.{ltb}
 use Rattle.record.specs.Table.{part, allZero, startOf, endOf, widthOf}
 use Rattle.reading.specs.Reading.{reads}
 use Rattle.marking.specs.declared.Mark.{Mark}
-use Rattle.marking.specs.Marks.{letterOf, markIn, markOf}
+use Rattle.marking.specs.Marks.{letterOf, markBetween, markOf}
 use Rattle.marking.proofs.Marking.{absent-unread}
 
 never : (past blank : Bool) → cond past Mark.Unknown (cond blank Mark.Blank Mark.Filled) ≡ Mark.Absent → ⊥
@@ -18,6 +18,6 @@ never false true e = let n = ap letterOf e in omega arith
 never false false e = let n = ap letterOf e in omega arith
 
 pub never-absent : (a : ℕ) (s : List ℕ) (f : ℕ) → f < 4 → markOf a s f ≡ Mark.Absent → ⊥
-unfolding markIn reads
+unfolding markBetween reads
 never-absent a s f h e =
     never (ltb a (endOf f)) (allZero (part s (startOf f) (widthOf f))) (simp (absent-unread s f (omega arith), lt-ltb f 4 h) at e)

@@ -17,12 +17,12 @@ use Rattle.reading.specs.Reading.{reads, readsAt, fieldBy, plain, aged, sizeOf,
 use Rattle.reading.proofs.Rows.{passes, in-row}
 use Rattle.reading.proofs.FieldBytes.{record-fields}
 use Rattle.reading.proofs.Limits.{reads-is, start-end}
-use Rattle.marking.specs.Marks.{markIn, markOf, heldBack}
+use Rattle.marking.specs.Marks.{markBetween, markOf, heldBack}
 use Rattle.marking.proofs.HeldBack.{held-exactly, shown-zero}
 
 -- the marks of a field that both know
 pub same-mark : (a b : ℕ) (s : List ℕ) → a ≤ b → (f : ℕ) → endOf f ≤ a → markOf a s f ≡ markOf b s f
-unfolding markIn
+unfolding markBetween
 same-mark a b s r f h = let g : endOf f ≤ b = omega arith in rw (le-ltb a (endOf f) h, le-ltb b (endOf f) g)
 
 not-yes : (t : Bool) → (t ≡ true → ⊥) → t ≡ false

@@ -1,5 +1,5 @@
 -- 01, "Ages, marks, runs": the fourteen marks, and which records are held back. Assumes nothing.
-use Prim.Native.Nat.{ℕ}
+use Prim.Native.Nat.{ℕ, _-_}
 use Prim.Native.String.{String}
 use mathlib.Core.List.{List, [], _∷_, map}
 use mathlib.Core.Bool.{Bool, not, cond}
@@ -9,7 +9,7 @@ use Rattle.answers.specs.declared.Told.{Told}
 use Rattle.answers.specs.Tells.{success, refusal}
 use Rattle.buffer.specs.Ascii.{ascii}
 use Rattle.buffer.specs.Written.{Outcome, written, refused}
-use Rattle.record.specs.Table.{startOf, endOf, widthOf, part, allZero}
+use Rattle.record.specs.Table.{startOf, endOf, part, allZero}
 use Rattle.reading.specs.Reading.{taken, ifWhole, ifAge}
 use Rattle.marking.specs.declared.Held.{Held}
 use Rattle.marking.specs.declared.Mark.{Mark}
@@ -25,13 +25,17 @@ letterOf Mark.Absent = letter "A"
 letterOf Mark.Blank = letter "B"
 letterOf Mark.Filled = letter "F"
 
--- the mark of field f of a record of t bytes at the front of s, for a reader of age a: unknown when its end is past a; else absent
--- when the record doesn't hold it; else blank when its bytes are all zero; else filled
-unfoldable pub markIn : ℕ → ℕ → List ℕ → ℕ → Mark
-markIn a t s f =
-    cond (ltb a (endOf f)) Mark.Unknown
-    (cond (ltb t (endOf f)) Mark.Absent
-    (cond (allZero (part s (startOf f) (widthOf f))) Mark.Blank Mark.Filled))
+-- the mark of a field that goes from start to end, in a record of t bytes at the front of s, for a reader of age a: unknown when its
+-- end is past a; else absent when the record doesn't hold it; else blank when its bytes are all zero; else filled
+unfoldable pub markBetween : ℕ → ℕ → List ℕ → ℕ → ℕ → Mark
+markBetween a t s start end =
+    cond (ltb a end) Mark.Unknown
+    (cond (ltb t end) Mark.Absent
+    (cond (allZero (part s start (end - start))) Mark.Blank Mark.Filled))
+
+-- the mark of field f
+abbrev pub markIn : ℕ → ℕ → List ℕ → ℕ → Mark
+markIn a t s f = markBetween a t s (startOf f) (endOf f)
 
 -- the letters of the marks of the fourteen fields after size, in field order
 unfoldable pub lettersIn : ℕ → ℕ → List ℕ → List ℕ

@@ -10,10 +10,9 @@ use record::Age;
 use record::ENDS;
 use record::STARTS;
 ghost use mathlib.Core.Path.{_≡_};
-ghost use Prim.Native.Nat.{_<_};
 ghost use Rattle.buffer.specs.Put.{Put};
 ghost use Rattle.buffer.specs.Written.{outcome, written};
-ghost use Rattle.marking.specs.Marks.{heldOf, heldTells, lateBytes, letterOf, lettersIn, markIn, marksOutcome};
+ghost use Rattle.marking.specs.Marks.{heldOf, heldTells, lateBytes, letterOf, lettersIn, markBetween, marksOutcome};
 
 // What a reader of an age can say of a field.
 pub enum Mark {
@@ -101,19 +100,16 @@ pub fn held_back(bytes: &[u8], age: Age) -> Held
     }
 }
 
-// The mark of field f of a record of t bytes at the front of bytes.
-fn mark_of(bytes: &[u8], t: usize, age: usize, f: usize) -> Mark
-    requires { ⌜ f < 15 ⌝ }
-    ensures { λ r. ⌜ r ≡ markIn age t (now (bytes .entry)) f ⌝ }
+// The mark of a field that goes from start to end, in a record of t bytes at the front of bytes.
+fn mark_of(bytes: &[u8], t: usize, age: usize, start: usize, end: usize) -> Mark
+    ensures { λ r. ⌜ r ≡ markBetween age t (now (bytes .entry)) start end ⌝ }
 {
-    let end = ENDS[f];
     if age < end {
         return Mark::Unknown;
     }
     if t < end {
         return Mark::Absent;
     }
-    let start = STARTS[f];
     if late_bytes(bytes, end, start) {
         Mark::Filled
     } else {
@@ -125,10 +121,12 @@ fn mark_of(bytes: &[u8], t: usize, age: usize, f: usize) -> Mark
 pub fn put_marks(bytes: &[u8], t: usize, age: usize, at: usize, out: &mut [u8]) -> usize
     ensures { λ r. ⌜ Put (now (out .entry)) at (lettersIn age t (now (bytes .entry))) (now (out .exit)) r ⌝ }
 {
+    let starts = STARTS;
+    let ends = ENDS;
     let mut o = at;
     let mut i = 0;
     while i < 14 {
-        let letter = mark_of(bytes, t, age, i + 1).letter();
+        let letter = mark_of(bytes, t, age, starts[i + 1], ends[i + 1]).letter();
         o = put_byte(out, o, letter);
         i += 1;
     }

@@ -52,9 +52,10 @@ impl Age {
         ensures { λ r. ⌜ r ≡ isAge (self .0) ⌝ }
     {
         let age = self.0 as usize;
+        let ends = ENDS;
         let mut f = 3;
         while f < 15 {
-            if ENDS[f] == age {
+            if ends[f] == age {
                 return true;
             }
             f += 1;

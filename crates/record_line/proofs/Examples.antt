@@ -15,7 +15,7 @@ use Rattle.places.specs.Say.{say, dashAfter, sayAll}
 use Rattle.places.specs.Places.{placesOf, textOf}
 use Rattle.record.specs.Ages.{isAge}
 use Rattle.reading.specs.Reading.{reads, fieldBy, recordBy, aged, ifWhole, ifAge}
-use Rattle.marking.specs.Marks.{markIn, lettersIn, heldBack}
+use Rattle.marking.specs.Marks.{markBetween, lettersIn, heldBack}
 use Rattle.record_line.specs.RecordLine.{visible, escaped, escapedAll, shownWords, newline, laidOut, recordLine, recordLineOf}
 
 -- language FF FF: a text of nine bytes past 0x7E
@@ -32,5 +32,5 @@ pub examples :
     × (recordLineOf 64 0 0 (17 ∷ replicate 15 0) (7 ∷ []) ≡ refused Refusal.FewerThanSize (7 ∷ []))
     × (recordLineOf 64 1 16 (replicate 16 0) (replicate 24 7) ≡ refused Refusal.ShortBuffer (replicate 24 7))
     × (recordLineOf 64 1 16 (replicate 16 0) (replicate 26 7) ≡ wrote (ascii "1 16 0 BBBAAAAAAAAAAA %-" ++ newline) (replicate 26 7))
-unfolding laidOut shownWords escapedAll escaped visible written lettersIn markIn heldBack isAge ifAge ifWhole aged recordBy fieldBy reads textOf placesOf sayAll say dashAfter localeWords newWords legacyWords unpacked subtagOf dropNuls keep replaced replacedBy frontOf okAt decimal digits
+unfolding laidOut shownWords escapedAll escaped visible written lettersIn markBetween heldBack isAge ifAge ifWhole aged recordBy fieldBy reads textOf placesOf sayAll say dashAfter localeWords newWords legacyWords unpacked subtagOf dropNuls keep replaced replacedBy frontOf okAt decimal digits
 examples = (refl, refl, refl, refl, refl, refl, refl)

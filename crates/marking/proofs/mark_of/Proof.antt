@@ -12,7 +12,7 @@ use Rattle.marking.proofs.mark_of.Tie as tie
 returns-2 : tie.Need-returns-2
 returns-2 c =
     let a = c .before .before .before .args in
-    mark-absent (a .age) (a .t) (now (a .bytes)) (a .f) (c .before .if1 .left) (c .if2 .taken)
+    mark-absent (a .age) (a .t) (now (a .bytes)) (a .start) (a .end) (c .before .if1 .left) (c .if2 .taken)
 
 returns-3 : tie.Need-returns-3
 returns-3 c =
@@ -21,7 +21,7 @@ returns-3 c =
     let known = held .before in
     let a = known .before .before .args in
     ap (λ (b : Bool). cond b Mark.Filled Mark.Blank) (sym (c .if3 .taken) ∙ late .late-bytes .ensures)
-    ∙ mark-held (a .age) (a .t) (now (a .bytes)) (a .f) (known .if1 .left) (held .if2 .left)
+    ∙ mark-held (a .age) (a .t) (now (a .bytes)) (a .start) (a .end) (known .if1 .left) (held .if2 .left)
 
 returns-4 : tie.Need-returns-4
 returns-4 c =
@@ -30,14 +30,13 @@ returns-4 c =
     let known = held .before in
     let a = known .before .before .args in
     ap (λ (b : Bool). cond b Mark.Filled Mark.Blank) (sym (c .if3 .left) ∙ late .late-bytes .ensures)
-    ∙ mark-held (a .age) (a .t) (now (a .bytes)) (a .f) (known .if1 .left) (held .if2 .left)
+    ∙ mark-held (a .age) (a .t) (now (a .bytes)) (a .start) (a .end) (known .if1 .left) (held .if2 .left)
 
 pub mark-of-spec : {M : Type 1} → statement M
 mark-of-spec =
     tie.close
     (tie.spec
-    (λ c. search needs) (λ c. search needs)
-    (λ c. mark-unknown _ _ (now (c .before .before .args .bytes)) _ (c .if1 .taken))
+    (λ c. let a = c .before .before .args in mark-unknown (a .age) (a .t) (now (a .bytes)) (a .start) (a .end) (c .if1 .taken))
     returns-2
-    (λ c. search needs) (λ c. search needs) (λ c κs. tt)
+    (λ c κs. tt)
     returns-3 returns-4)

@@ -13,10 +13,10 @@ use Rattle.marking.proofs.put_marks.Statement.{statement}
 use Rattle.marking.proofs.put_marks.Tie as tie
 
 abbrev Inv-loop : tie.InvT-loop
-Inv-loop bytes t age at out₀ o₀ i₀ out o i = (i ≤ 14) × (length out ≡ length out₀) × Put out₀ at (take i (lettersIn age t bytes)) out o
+Inv-loop bytes t age at out₀ starts ends o₀ i₀ out o i = (i ≤ 14) × (length out ≡ length out₀) × Put out₀ at (take i (lettersIn age t bytes)) out o
 
 abbrev μ-loop : tie.MeasureT-loop
-μ-loop bytes t age at out₀ o₀ i₀ out o i = 14 - i
+μ-loop bytes t age at out₀ starts ends o₀ i₀ out o i = 14 - i
 
 loop-again : tie.Need-loop-again Inv-loop μ-loop
 loop-again c =
@@ -45,7 +45,7 @@ put-marks-spec =
     (tie.spec
     Inv-loop μ-loop
     (λ c. (search needs, search needs, put-nil))
-    (λ c. omega arith) (λ c κs. omega arith) (λ c κs. tt) (λ c κs. search needs) (λ c. omega arith) (λ c. omega arith)
+    (λ c. omega arith) (λ c. search needs) (λ c. omega arith) (λ c. omega arith) (λ c. search needs) (λ c. omega arith) (λ c κs. tt) (λ c κs. tt) (λ c κs. search needs) (λ c. omega arith) (λ c. omega arith)
     loop-again
     (λ c. omega arith)
     returns)

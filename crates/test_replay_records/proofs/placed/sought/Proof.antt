@@ -29,7 +29,7 @@ use denote.Triple.Table.{cited}
 use Rattle.reader.specs.declared.RunReader.{RunReader}
 use Rattle.reader.specs.Reader.{readerAt, readerOf}
 use Rattle.reader.proofs.ByHand.{Ensures, Fact, Promised, Quiet, Knowns, Walk, leaves, asks, var, stores, gone, framed, kept}
-use Rattle.reader.proofs.ReaderLaws.{Bytes, Row, Steps, bytes-known, place-known}
+use Rattle.reader.proofs.ReaderLaws.{Bytes, Row, Steps, bytes-known, offset-known}
 use Rattle.runs.specs.declared.Stepped.{Stepped}
 use Rattle.runs.proofs.Stepped as S
 use Rattle.runs.proofs.Stepped.Laws as S′
@@ -71,7 +71,7 @@ module _ {M : Type 1} (𝓤 : URA M) (H : Heap 𝓤) (A : Atoms 𝓤) (mem : Mem
 
   module _ (W : Given 𝓤 H A) where
     abbrev known : (κs : Lfts 1) → Knowns 𝓤 H A (Bytes κs ∷ usize ∷ [])
-    known κs = (bytes-known 𝓤 H A W κs, (place-known 𝓤 H A W, tt))
+    known κs = (bytes-known 𝓤 H A W κs, (offset-known 𝓤 H A W, tt))
 
     module _ (C : Calls 𝓤 H) (Λ : Loops 𝓤 H) (fm : FmC 𝓤 H (W .laws) C)
         (news : Triple 𝓤 (C new-def.name) (Promised 𝓤 H A new.ended φ-new))

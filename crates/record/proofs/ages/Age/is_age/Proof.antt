@@ -11,10 +11,10 @@ use Rattle.record.proofs.ages.Age.is_age.Statement.{statement}
 use Rattle.record.proofs.ages.Age.is_age.Tie as tie
 
 abbrev Inv-loop : tie.InvT-loop
-Inv-loop age f₀ f = among age ages ≡ among age (drop f ends)
+Inv-loop age table f₀ f = among age ages ≡ among age (drop f ends)
 
 abbrev μ-loop : tie.MeasureT-loop
-μ-loop age f₀ f = 15 - f
+μ-loop age table f₀ f = 15 - f
 
 returns : tie.Need-returns Inv-loop μ-loop
 unfolding isAge
