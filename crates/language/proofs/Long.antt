@@ -43,6 +43,10 @@ language-long a b =
 pub region-long : (a b : ℕ) → b < 256 → length (regionOf a b) ≤ 4
 region-long a b byte =
     by-way (λ (s : List ℕ). length (subtagOf s) ≤ 4) 48 a b
-    (λ h. omega (arith, low-long ((b % 32 + 48) ∷ (b / 32 + a % 4 * 8 + 48) ∷ (a / 4 % 32 + 48) ∷ 0 ∷ []) (omega arith, (omega arith, (omega arith, (omega arith, tt)))), three-kept (b % 32 + 48) (b / 32 + a % 4 * 8 + 48) (a / 4 % 32 + 48)))
+    (λ h. omega (
+      arith,
+      low-long ((b % 32 + 48) ∷ (b / 32 + a % 4 * 8 + 48) ∷ (a / 4 % 32 + 48) ∷ 0 ∷ []) (omega arith, (omega arith, (omega arith, (omega arith, tt)))),
+      three-kept (b % 32 + 48) (b / 32 + a % 4 * 8 + 48) (a / 4 % 32 + 48),
+    ))
     (omega (arith, low-long (0 ∷ 0 ∷ 0 ∷ 0 ∷ []) (omega arith, (omega arith, (omega arith, (omega arith, tt)))), three-kept 0 0 0))
     (λ h. low-then a b h)

@@ -39,22 +39,23 @@ field-by p q s f e = rw e
 pub record-fields : (p q : ℕ → Bool) (s t : List ℕ) → ((f : ℕ) → f < 15 → fieldBy p s f ≡ fieldBy q t f) → recordBy p s ≡ recordBy q t
 unfolding recordBy
 record-fields p q s t e =
-    same
-    (ap le (e 0 (lit< tt)))
-    (ap le (e 1 (lit< tt)))
-    (ap le (e 2 (lit< tt)))
-    (ap le (e 3 (lit< tt)))
-    (ap le (e 4 (lit< tt)))
-    (ap le (e 5 (lit< tt)))
-    (ap le (e 6 (lit< tt)))
-    (ap le (e 7 (lit< tt)))
-    (ap le (e 8 (lit< tt)))
-    (e 9 (lit< tt))
-    (e 10 (lit< tt))
-    (ap le (e 11 (lit< tt)))
-    (ap (λ (l : List ℕ). not (allZero l)) (e 12 (lit< tt)))
-    (e 13 (lit< tt))
-    (e 14 (lit< tt))
+    same record {
+      size = ap le (e 0 (lit< tt));
+      imsi = ap le (e 1 (lit< tt));
+      locale = ap le (e 2 (lit< tt));
+      «screen_type» = ap le (e 3 (lit< tt));
+      «generic_purpose_field» = ap le (e 4 (lit< tt));
+      «screen_size» = ap le (e 5 (lit< tt));
+      version = ap le (e 6 (lit< tt));
+      «screen_config» = ap le (e 7 (lit< tt));
+      «screen_size_dp» = ap le (e 8 (lit< tt));
+      «locale_script» = e 9 (lit< tt);
+      «locale_variant» = e 10 (lit< tt);
+      «screen_config_2» = ap le (e 11 (lit< tt));
+      «locale_script_was_computed» = ap (λ (l : List ℕ). not (allZero l)) (e 12 (lit< tt));
+      «locale_numbering_system» = e 13 (lit< tt);
+      «end_padding» = e 14 (lit< tt);
+    }
 
 -- two readings that read the same fields give one record
 pub record-by : (p q : ℕ → Bool) (s : List ℕ) → ((f : ℕ) → f < 15 → p f ≡ q f) → recordBy p s ≡ recordBy q s

@@ -65,5 +65,12 @@ module _ (a b : List ℕ) (x : Parsed) (t : Told) (e : parsedOutcome x ≡ parse
     -- then the order of both
     pub both-read : u .number ≡ 0 → (o : Ordering) (r : ℕ) → o ≡ orderOf (x .«record») (y .«record») → r ≡ orderingTells o → answerTells r ≡ orderTold a b
     both-read w o r p q =
-        rw (q, whole-took a refusal (ifWhole b refusal _) (whole a x t e f z), whole-took b refusal (success (orderingTells (orderOf (plain a) (plain b)))) (whole b y u g h w), ← read-plain a x t e f z, ← read-plain b y u g h w, ← p)
+        rw (
+          q,
+          whole-took a refusal (ifWhole b refusal _) (whole a x t e f z),
+          whole-took b refusal (success (orderingTells (orderOf (plain a) (plain b)))) (whole b y u g h w),
+          ← read-plain a x t e f z,
+          ← read-plain b y u g h w,
+          ← p,
+        )
         (amount-tells (orderingTells o) (ordering-most o))

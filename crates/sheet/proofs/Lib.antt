@@ -1,3 +1,3 @@
 pub mod Bits
-pub mod Made
+pub mod Sheets
 pub mod OneOutcome

@@ -12,7 +12,8 @@ use Rattle.buffer.proofs.Digits.{decimal-long}
 use Rattle.kinds.proofs.Pick.{pick-each}
 use Rattle.kinds.specs.Input.{touchscreens, touchscreenOf, keysHiddens, keysHiddenOf, keyboards, keyboardOf, navHiddens, navHiddenOf, navigations, navigationOf}
 use Rattle.kinds.specs.Mode.{grammaticalGenders, grammaticalGenderOf, uiModes, uiModeOf, uiModeNights, uiModeNightOf}
-use Rattle.kinds.specs.Screen.{layoutDirs, layoutDirOf, screenSizes, screenSizeOf, screenLongs, screenLongOf, screenRounds, screenRoundOf, wideColorGamuts, wideColorGamutOf, hdrs, hdrOf, orientations, orientationOf, densities, densityOf}
+use Rattle.kinds.specs.Screen.{layoutDirs, layoutDirOf, screenSizes, screenSizeOf, screenLongs, screenLongOf, screenRounds, screenRoundOf}
+use Rattle.kinds.specs.Screen.{wideColorGamuts, wideColorGamutOf, hdrs, hdrOf, orientations, orientationOf, densities, densityOf}
 use Rattle.kinds.specs.declared.Kind.{Kind}
 use Rattle.kinds.specs.declared.input.Keyboard.{Keyboard}
 use Rattle.kinds.specs.declared.input.KeysHidden.{KeysHidden}

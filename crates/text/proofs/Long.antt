@@ -17,7 +17,10 @@ use Rattle.record.proofs.Shapes.{shaped}
 use Rattle.locale.specs.Locale.{localeSaid, localeWords}
 use Rattle.locale.proofs.Long.{locale-long}
 use Rattle.places.specs.Places.{some, minorWords, pixelPlace, versionPlace, placesOf, textOf}
-use Rattle.text.proofs.Cost.{cost, first-long, Within, within-total, words-cost, label-cost, dp-cost, gender-cost, layout-dir-cost, screen-size-cost, screen-long-cost, screen-round-cost, wide-color-gamut-cost, hdr-cost, orientation-cost, ui-mode-cost, ui-mode-night-cost, density-cost, touchscreen-cost, keys-hidden-cost, keyboard-cost, nav-hidden-cost, navigation-cost}
+use Rattle.text.proofs.Cost.{cost, first-long, Within, within-total, words-cost, label-cost, dp-cost, gender-cost, layout-dir-cost}
+use Rattle.text.proofs.Cost.{screen-size-cost, screen-long-cost, screen-round-cost, wide-color-gamut-cost, hdr-cost}
+use Rattle.text.proofs.Cost.{orientation-cost, ui-mode-cost, ui-mode-night-cost, density-cost, touchscreen-cost, keys-hidden-cost}
+use Rattle.text.proofs.Cost.{keyboard-cost, nav-hidden-cost, navigation-cost}
 
 -- what the type of a word says
 abbrev pub Word : ℕ → Type 0

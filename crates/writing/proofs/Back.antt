@@ -70,22 +70,23 @@ module _ (r : ResTableConfig) (w : Shaped r) (more : List ℕ) where
     record-is : recordBy (reads (r .size)) (bytesWritten r ++ more) ≡ r
     unfolding recordBy bytesOf
     record-is =
-        same
-        (word-is 0 (r .size) (lit< tt) refl)
-        (word-is 1 (r .imsi) (lit< tt) refl)
-        (word-is 2 (r .locale) (lit< tt) refl)
-        (word-is 3 (r .«screen_type») (lit< tt) refl)
-        (word-is 4 (r .«generic_purpose_field») (lit< tt) refl)
-        (word-is 5 (r .«screen_size») (lit< tt) refl)
-        (word-is 6 (r .version) (lit< tt) refl)
-        (word-is 7 (r .«screen_config») (lit< tt) refl)
-        (word-is 8 (r .«screen_size_dp») (lit< tt) refl)
-        (field-is 9 (lit< tt))
-        (field-is 10 (lit< tt))
-        (word-is 11 (r .«screen_config_2») (lit< tt) refl)
-        (ap (λ (l : List ℕ). not (allZero l)) (field-is 12 (lit< tt)) ∙ bit-round (r .«locale_script_was_computed»))
-        (field-is 13 (lit< tt))
-        (field-is 14 (lit< tt))
+        same record {
+          size = word-is 0 (r .size) (lit< tt) refl;
+          imsi = word-is 1 (r .imsi) (lit< tt) refl;
+          locale = word-is 2 (r .locale) (lit< tt) refl;
+          «screen_type» = word-is 3 (r .«screen_type») (lit< tt) refl;
+          «generic_purpose_field» = word-is 4 (r .«generic_purpose_field») (lit< tt) refl;
+          «screen_size» = word-is 5 (r .«screen_size») (lit< tt) refl;
+          version = word-is 6 (r .version) (lit< tt) refl;
+          «screen_config» = word-is 7 (r .«screen_config») (lit< tt) refl;
+          «screen_size_dp» = word-is 8 (r .«screen_size_dp») (lit< tt) refl;
+          «locale_script» = field-is 9 (lit< tt);
+          «locale_variant» = field-is 10 (lit< tt);
+          «screen_config_2» = word-is 11 (r .«screen_config_2») (lit< tt) refl;
+          «locale_script_was_computed» = ap (λ (l : List ℕ). not (allZero l)) (field-is 12 (lit< tt)) ∙ bit-round (r .«locale_script_was_computed»);
+          «locale_numbering_system» = field-is 13 (lit< tt);
+          «end_padding» = field-is 14 (lit< tt);
+        }
 
     plain-back : plain (bytesWritten r ++ more) ≡ r
     unfolding plain

@@ -64,14 +64,16 @@ module _ (r : ResTableConfig) (w : Shaped r) where
     own = omega (arith, bytes-long m l)
 
   module _ (k f : ℕ) (t : reads (r .size) f ≡ true) (ge : startOf f ≤ k) (lt : k < endOf f) where
-    in-by : (m : ℕ) → m < 15 → f < suc m → (f < m → getD (laid r m) k 0 ≡ getD (bytesOf r f) (k - startOf f) 0) → (b c : Bool) → reads (r .size) m ≡ b → ltb f m ≡ c
+    in-by : (m : ℕ) → m < 15 → f < suc m → (f < m → getD (laid r m) k 0 ≡ getD (bytesOf r f) (k - startOf f) 0) → (b c : Bool)
+        → reads (r .size) m ≡ b → ltb f m ≡ c
         → getD (cond b (paste (laid r m) (startOf m) (bytesOf r m) (widthOf m)) (laid r m)) k 0 ≡ getD (bytesOf r f) (k - startOf f) 0
     in-by m l h ih true true p q =
         let g = ltb-true f m q in
         paste-before (laid r m) (bytesOf r m) (startOf m) (widthOf m) (fits m l p) (own m l p) k (omega (arith, ordered f m g l)) ∙ ih g
     in-by m l h ih true false p q =
         let g : m ≡ f = omega (arith, ltb-false f m q) in
-        paste-in (laid r m) (bytesOf r m) (startOf m) (widthOf m) (fits m l p) (own m l p) k (rw g ge) (omega (arith, start-end m l, ap endOf g)) ∙ ap (λ (j : ℕ). getD (bytesOf r j) (k - startOf j) 0) g
+        paste-in (laid r m) (bytesOf r m) (startOf m) (widthOf m) (fits m l p) (own m l p) k (rw g ge) (omega (arith, start-end m l, ap endOf g))
+        ∙ ap (λ (j : ℕ). getD (bytesOf r j) (k - startOf j) 0) g
     in-by m l h ih false true p q = ih (ltb-true f m q)
     in-by m l h ih false false p q =
         let g : f ≡ m = omega (arith, ltb-false f m q) in
@@ -84,13 +86,16 @@ module _ (r : ResTableConfig) (w : Shaped r) where
     laid-in (suc m) h g = in-by m (omega arith) g (laid-in m (omega arith)) (reads (r .size) m) (ltb f m) refl refl
 
   module _ (k : ℕ) where
-    beside : (m : ℕ) → m < 15 → (e : reads (r .size) m ≡ true) → inField k m ≡ false → getD (laid r m) k 0 ≡ 0 → (b : Bool) → leb (startOf m) k ≡ b → getD (paste (laid r m) (startOf m) (bytesOf r m) (widthOf m)) k 0 ≡ 0
+    beside : (m : ℕ) → m < 15 → (e : reads (r .size) m ≡ true) → inField k m ≡ false → getD (laid r m) k 0 ≡ 0
+        → (b : Bool) → leb (startOf m) k ≡ b → getD (paste (laid r m) (startOf m) (bytesOf r m) (widthOf m)) k 0 ≡ 0
     beside m l e o ih true q =
         let g : endOf m ≤ k = ltb-false k (endOf m) (rw q at o) in
         paste-behind (laid r m) (bytesOf r m) (startOf m) (widthOf m) (fits m l e) (own m l e) k (omega (arith, start-end m l)) ∙ ih
-    beside m l e o ih false q = paste-before (laid r m) (bytesOf r m) (startOf m) (widthOf m) (fits m l e) (own m l e) k (leb-false (startOf m) k q) ∙ ih
+    beside m l e o ih false q =
+        paste-before (laid r m) (bytesOf r m) (startOf m) (widthOf m) (fits m l e) (own m l e) k (leb-false (startOf m) k q) ∙ ih
 
-    out-by : (m : ℕ) → m < 15 → getD (laid r m) k 0 ≡ 0 → (b : Bool) → reads (r .size) m ≡ b → b && inField k m ≡ false → getD (cond b (paste (laid r m) (startOf m) (bytesOf r m) (widthOf m)) (laid r m)) k 0 ≡ 0
+    out-by : (m : ℕ) → m < 15 → getD (laid r m) k 0 ≡ 0 → (b : Bool) → reads (r .size) m ≡ b → b && inField k m ≡ false
+        → getD (cond b (paste (laid r m) (startOf m) (bytesOf r m) (widthOf m)) (laid r m)) k 0 ≡ 0
     out-by m l ih true e o = beside m l e o ih (leb (startOf m) k) refl
     out-by m l ih false e o = ih
 

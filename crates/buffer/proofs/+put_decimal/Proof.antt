@@ -35,6 +35,11 @@ pub +put-decimal-spec : {M : Type 1} → statement M
     (λ c. omega arith) (λ c. omega arith) (λ c κs. search needs)
     (λ c κs. (omega arith, search needs))
     (λ c. omega arith) (λ c. omega arith) (λ c κs. search needs) (λ c. search needs)
-    (λ c. rw (decimal-one _ (c .before .before .before .before .if1 .taken)) (c .before .before .put-byte .ensures))
+    (λ c. let put-byte = c .before .before in rw (decimal-one _ (put-byte .before .before .if1 .taken)) (put-byte .put-byte .ensures))
     (λ c. search needs)
-    (λ c. rw (decimal-more _ (c .before .before .before .before .before .before .before .before .if1 .left)) (put-put (c .before .before .before .before .before .before .put-decimal .ensures) (c .before .before .put-byte2 .ensures)))
+    (λ c.
+    let put-byte = c .before .before in
+    let out = put-byte .before .before .before in
+    let put-decimal-at = out .before in
+    let if1 = put-decimal-at .before .before in
+    rw (decimal-more _ (if1 .if1 .left)) (put-put (put-decimal-at .put-decimal .ensures) (put-byte .put-byte2 .ensures)))

@@ -18,8 +18,11 @@ abbrev μ-loop : tie.MeasureT-loop
 
 loop-again : tie.Need-loop-again Inv-loop μ-loop
 loop-again c =
-    let l = c .before .before .before .before .before .before .loop in
-    (omega arith, omega arith, rw add-one (put-turn _ (l .j) (omega arith) (l .inv .2) (c .before .before .put-byte .ensures)))
+    let put-byte = c .before .before in
+    let loop-test = put-byte .before .before .before in
+    let loop = loop-test .before in
+    let l = loop .loop in
+    (omega arith, omega arith, rw add-one (put-turn _ (l .j) (omega arith) (l .inv .2) (put-byte .put-byte .ensures)))
 
 pub put-spec : {M : Type 1} → statement M
 put-spec =

@@ -8,4 +8,7 @@ put-language-spec =
     tie.close
     (tie.spec
     (λ c κs. search needs) (λ c κs. tt) (λ c. search needs)
-    (λ c. rw (← c .before .before .before .before .before .unpack-language-or-region .ensures) (c .before .before .put-four .ensures)))
+    (λ c.
+    let put-four = c .before .before in
+    let unpack-language-or-region = put-four .before .before .before in
+    rw (← unpack-language-or-region .unpack-language-or-region .ensures) (put-four .put-four .ensures)))

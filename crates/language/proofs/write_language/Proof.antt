@@ -11,9 +11,12 @@ use Rattle.language.proofs.write_language.Tie as tie
 
 returns : tie.Need-returns
 returns c =
-    let s = c .before .before .before .before .before .before .before .before .before in
-    let l = language-long (s .args .a) (s .args .b) in
-    c .before .before .write .ensures ∙ copied _ (omega (arith, l)) (c .before .before .before .before .before .before .put-language .ensures)
+    let write = c .before .before in
+    let own = write .before .before .before in
+    let put-language = own .before in
+    let start = put-language .before .before .before in
+    let l = language-long (start .args .a) (start .args .b) in
+    write .write .ensures ∙ copied _ (omega (arith, l)) (put-language .put-language .ensures)
 
 pub write-language-spec : {M : Type 1} → statement M
 write-language-spec =

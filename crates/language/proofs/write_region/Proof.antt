@@ -11,9 +11,12 @@ use Rattle.language.proofs.write_region.Tie as tie
 
 returns : tie.Need-returns
 returns c =
-    let s = c .before .before .before .before .before .before .before .before .before in
-    let l = region-long (s .args .a) (s .args .b) (search needs) in
-    c .before .before .write .ensures ∙ copied _ (omega (arith, l)) (c .before .before .before .before .before .before .put-region .ensures)
+    let write = c .before .before in
+    let own = write .before .before .before in
+    let put-region = own .before in
+    let start = put-region .before .before .before in
+    let l = region-long (start .args .a) (start .args .b) (search needs) in
+    write .write .ensures ∙ copied _ (omega (arith, l)) (put-region .put-region .ensures)
 
 pub write-region-spec : {M : Type 1} → statement M
 write-region-spec =

@@ -21,9 +21,14 @@ fill-spec =
     (λ buffer₀ count₀ buffer count. length buffer - count)
     (λ c. (omega arith, refl))
     (λ c. search needs) (λ c. search needs) (λ c. search needs) (λ c κs. search needs) (λ c. search needs)
-    (λ c. counted _ _ (omega (arith, c .before .before .before .before .before .before .loop .inv)))
+    (λ c. let read = c .before .before .before in counted _ _ (omega (arith, read .before .before .before .loop .inv)))
     (λ c. search needs) (λ c. search needs) (λ c. search needs) (λ c κs. search needs)
     (λ c. search needs) (λ c. search needs) (λ c. search needs) (λ c. search needs)
     (λ c. counted _ _ (omega (arith, c .before .loop .inv)))
     (λ c. search needs)
-    (λ c. counted _ _ (omega (arith, c .before .before .before .before .before .before .before .before .before .before .loop .inv))))
+    (λ c.
+    let count = c .before in
+    let if1 = count .before .before .before in
+    let read = if1 .before .before .before in
+    let loop = read .before .before .before in
+    counted _ _ (omega (arith, loop .loop .inv))))

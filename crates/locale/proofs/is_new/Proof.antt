@@ -7,6 +7,16 @@ is-new-spec =
     tie.close
     (tie.spec
     (λ c κs. tt) (λ c. rw (← c .before .script-provided .ensures, c .if1 .taken)) (λ c κs. tt)
-    (λ c. rw (← c .before .before .before .before .script-provided .ensures, c .before .before .before .if1 .left, ← c .before .eight-begin .ensures, c .if2 .taken))
+    (λ c.
+    let eight-begin = c .before in
+    let if1 = eight-begin .before .before in
+    let script-provided = if1 .before in
+    rw (← script-provided .script-provided .ensures, if1 .if1 .left, ← eight-begin .eight-begin .ensures, c .if2 .taken))
     (λ c κs. tt)
-    (λ c. rw (← c .before .before .before .before .before .before .script-provided .ensures, c .before .before .before .before .before .if1 .left, ← c .before .before .before .eight-begin .ensures, c .before .before .if2 .left) (c .eight-begin2 .ensures)))
+    (λ c.
+    let if2 = c .before .before in
+    let eight-begin = if2 .before in
+    let if1 = eight-begin .before .before in
+    let script-provided = if1 .before in
+    rw (← script-provided .script-provided .ensures, if1 .if1 .left, ← eight-begin .eight-begin .ensures, if2 .if2 .left)
+    (c .eight-begin2 .ensures)))

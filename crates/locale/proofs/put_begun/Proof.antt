@@ -8,4 +8,7 @@ put-begun-spec =
     tie.close
     (tie.spec
     (λ c κs. tt) (λ c. search needs) (λ c κs. tt) (λ c. search needs)
-    (λ c. rw (← c .before .before .before .before .before .eight-begin .ensures) (c .before .before .put-behind .ensures)))
+    (λ c.
+    let put-behind = c .before .before in
+    let eight-begin = put-behind .before .before .before in
+    rw (← eight-begin .eight-begin .ensures) (put-behind .put-behind .ensures)))

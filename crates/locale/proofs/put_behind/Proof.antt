@@ -9,5 +9,10 @@ put-behind-spec =
     tie.close
     (tie.spec
     (λ c κs. tt) (λ c κs. tt) (λ c. search needs)
-    (λ c. rw (c .before .before .before .before .before .before .before .before .if1 .taken) (put-put (c .before .before .before .before .before .before .put .ensures) (c .before .before .put-subtag .ensures)))
+    (λ c.
+    let put-subtag = c .before .before in
+    let out = put-subtag .before .before .before in
+    let put = out .before in
+    let if1 = put .before .before in
+    rw (if1 .if1 .taken) (put-put (put .put .ensures) (put-subtag .put-subtag .ensures)))
     (λ c. rw (c .if1 .left) put-nil))

@@ -7,7 +7,11 @@ use Rattle.locale.proofs.put_legacy.Tie as tie
 
 returns : tie.Need-returns
 unfolding legacyWords
-returns c = put-put (c .before .before .before .before .before .before .before .put-own-language .ensures) (c .before .before .put-own-region .ensures)
+returns c =
+    let put-own-region = c .before .before in
+    let put-own-region-arg = put-own-region .before .before in
+    let put-own-language = put-own-region-arg .before .before .before in
+    put-put (put-own-language .put-own-language .ensures) (put-own-region .put-own-region .ensures)
 
 pub put-legacy-spec : {M : Type 1} → statement M
 put-legacy-spec =

@@ -6,11 +6,19 @@ use Rattle.locale.proofs.put_locale.Tie as tie
 
 returns : tie.Need-returns
 unfolding localeWords
-returns c = rw (← c .before .before .before .before .before .is-new .ensures, c .before .before .before .before .if1 .taken) (c .before .before .put-new .ensures)
+returns c =
+    let put-new = c .before .before in
+    let if1 = put-new .before .before in
+    let is-new = if1 .before in
+    rw (← is-new .is-new .ensures, if1 .if1 .taken) (put-new .put-new .ensures)
 
 returns-2 : tie.Need-returns-2
 unfolding localeWords
-returns-2 c = rw (← c .before .before .before .before .before .is-new .ensures, c .before .before .before .before .if1 .left) (c .before .before .put-legacy .ensures)
+returns-2 c =
+    let put-legacy = c .before .before in
+    let if1 = put-legacy .before .before in
+    let is-new = if1 .before in
+    rw (← is-new .is-new .ensures, if1 .if1 .left) (put-legacy .put-legacy .ensures)
 
 pub put-locale-spec : {M : Type 1} → statement M
 put-locale-spec =

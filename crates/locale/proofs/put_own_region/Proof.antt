@@ -11,4 +11,9 @@ put-own-region-spec =
     (tie.spec
     (λ c. rw (eq-eqb _ _ (c .if1 .taken)) put-nil) (λ c κs. tt) (λ c. search needs) (λ c. search needs) (λ c κs. tt)
     (λ c. search needs)
-    (λ c. rw (ne-eqb _ _ (c .before .before .before .before .before .before .before .before .if1 .left)) (put-put (c .before .before .before .before .before .before .put .ensures) (c .before .before .put-region .ensures))))
+    (λ c.
+    let put-region = c .before .before in
+    let out = put-region .before .before .before in
+    let put = out .before in
+    let if1 = put .before .before in
+    rw (ne-eqb _ _ (if1 .if1 .left)) (put-put (put .put .ensures) (put-region .put-region .ensures))))

@@ -10,4 +10,4 @@ put-said-spec =
     tie.close
     (tie.spec
     (λ c κs. tt) (λ c. rw (eq-eqb _ _ (c .if1 .taken)) put-nil) (λ c. search needs)
-    (λ c. rw (ne-eqb _ _ (c .before .before .before .before .if1 .left)) (c .before .before .put-locale .ensures)))
+    (λ c. let put-locale = c .before .before in rw (ne-eqb _ _ (put-locale .before .before .if1 .left)) (put-locale .put-locale .ensures)))

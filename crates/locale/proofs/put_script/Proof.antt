@@ -8,4 +8,8 @@ put-script-spec =
     tie.close
     (tie.spec
     (λ c κs. tt) (λ c. search needs) (λ c. search needs) (λ c κs. tt) (λ c. search needs)
-    (λ c. rw (← c .before .before .before .before .before .before .script-provided .ensures) (c .before .before .put-behind .ensures)))
+    (λ c.
+    let put-behind = c .before .before in
+    let put-behind-arg = put-behind .before .before .before in
+    let script-provided = put-behind-arg .before in
+    rw (← script-provided .script-provided .ensures) (put-behind .put-behind .ensures)))

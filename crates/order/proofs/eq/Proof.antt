@@ -10,58 +10,58 @@ eq-spec =
     tie.close
     (tie.spec
     (λ c. differ _ (c .if1 .taken))
-    (λ c. let p1 = c .before .before .before in pass (p1 .if1 .left) (differ _ (c .if2 .taken)))
+    (λ c. let if1 = c .before .before .before in pass (if1 .if1 .left) (differ _ (c .if2 .taken)))
     (λ c.
-    let p2 = c .before .before .before in
-    let p1 = p2 .before .before .before in
-    pass (p1 .if1 .left) (pass (p2 .if2 .left) (differ _ (c .if3 .taken))))
+    let if2 = c .before .before .before in
+    let if1 = if2 .before .before .before in
+    pass (if1 .if1 .left) (pass (if2 .if2 .left) (differ _ (c .if3 .taken))))
     (λ c.
-    let p3 = c .before .before .before in
-    let p2 = p3 .before .before .before in
-    let p1 = p2 .before .before .before in
-    pass (p1 .if1 .left) (pass (p2 .if2 .left) (pass (p3 .if3 .left) (differ _ (c .if4 .taken)))))
+    let if3 = c .before .before .before in
+    let if2 = if3 .before .before .before in
+    let if1 = if2 .before .before .before in
+    pass (if1 .if1 .left) (pass (if2 .if2 .left) (pass (if3 .if3 .left) (differ _ (c .if4 .taken)))))
     (λ c.
-    let p4 = c .before .before .before in
-    let p3 = p4 .before .before .before in
-    let p2 = p3 .before .before .before in
-    let p1 = p2 .before .before .before in
-    pass (p1 .if1 .left) (pass (p2 .if2 .left) (pass (p3 .if3 .left) (pass (p4 .if4 .left) (differ _ (c .if5 .taken))))))
+    let if4 = c .before .before .before in
+    let if3 = if4 .before .before .before in
+    let if2 = if3 .before .before .before in
+    let if1 = if2 .before .before .before in
+    pass (if1 .if1 .left) (pass (if2 .if2 .left) (pass (if3 .if3 .left) (pass (if4 .if4 .left) (differ _ (c .if5 .taken))))))
     (λ c.
-    let p5 = c .before .before .before in
-    let p4 = p5 .before .before .before in
-    let p3 = p4 .before .before .before in
-    let p2 = p3 .before .before .before in
-    let p1 = p2 .before .before .before in
-    pass (p1 .if1 .left) (pass (p2 .if2 .left) (pass (p3 .if3 .left) (pass (p4 .if4 .left) (pass (p5 .if5 .left)
+    let if5 = c .before .before .before in
+    let if4 = if5 .before .before .before in
+    let if3 = if4 .before .before .before in
+    let if2 = if3 .before .before .before in
+    let if1 = if2 .before .before .before in
+    pass (if1 .if1 .left) (pass (if2 .if2 .left) (pass (if3 .if3 .left) (pass (if4 .if4 .left) (pass (if5 .if5 .left)
     (differ _ (c .if6 .taken)))))))
     (λ c.
-    let p6 = c .before .before .before in
-    let p5 = p6 .before .before .before in
-    let p4 = p5 .before .before .before in
-    let p3 = p4 .before .before .before in
-    let p2 = p3 .before .before .before in
-    let p1 = p2 .before .before .before in
-    pass (p1 .if1 .left) (pass (p2 .if2 .left) (pass (p3 .if3 .left) (pass (p4 .if4 .left) (pass (p5 .if5 .left) (pass (p6 .if6 .left)
+    let if6 = c .before .before .before in
+    let if5 = if6 .before .before .before in
+    let if4 = if5 .before .before .before in
+    let if3 = if4 .before .before .before in
+    let if2 = if3 .before .before .before in
+    let if1 = if2 .before .before .before in
+    pass (if1 .if1 .left) (pass (if2 .if2 .left) (pass (if3 .if3 .left) (pass (if4 .if4 .left) (pass (if5 .if5 .left) (pass (if6 .if6 .left)
     (differ _ (c .if7 .taken))))))))
     (λ c.
-    let p7 = c .before .before .before in
-    let p6 = p7 .before .before .before in
-    let p5 = p6 .before .before .before in
-    let p4 = p5 .before .before .before in
-    let p3 = p4 .before .before .before in
-    let p2 = p3 .before .before .before in
-    let p1 = p2 .before .before .before in
-    pass (p1 .if1 .left) (pass (p2 .if2 .left) (pass (p3 .if3 .left) (pass (p4 .if4 .left) (pass (p5 .if5 .left) (pass (p6 .if6 .left)
-    (pass (p7 .if7 .left) (differ _ (c .if8 .taken)))))))))
+    let if7 = c .before .before .before in
+    let if6 = if7 .before .before .before in
+    let if5 = if6 .before .before .before in
+    let if4 = if5 .before .before .before in
+    let if3 = if4 .before .before .before in
+    let if2 = if3 .before .before .before in
+    let if1 = if2 .before .before .before in
+    pass (if1 .if1 .left) (pass (if2 .if2 .left) (pass (if3 .if3 .left) (pass (if4 .if4 .left) (pass (if5 .if5 .left) (pass (if6 .if6 .left)
+    (pass (if7 .if7 .left) (differ _ (c .if8 .taken)))))))))
     (λ c κs. tt)
     (λ c.
-    let p8 = c .before in
-    let p7 = p8 .before .before .before in
-    let p6 = p7 .before .before .before in
-    let p5 = p6 .before .before .before in
-    let p4 = p5 .before .before .before in
-    let p3 = p4 .before .before .before in
-    let p2 = p3 .before .before .before in
-    let p1 = p2 .before .before .before in
-    pass (p1 .if1 .left) (pass (p2 .if2 .left) (pass (p3 .if3 .left) (pass (p4 .if4 .left) (pass (p5 .if5 .left) (pass (p6 .if6 .left)
-    (pass (p7 .if7 .left) (pass (p8 .if8 .left) (c .later-agree .ensures))))))))))
+    let if8 = c .before in
+    let if7 = if8 .before .before .before in
+    let if6 = if7 .before .before .before in
+    let if5 = if6 .before .before .before in
+    let if4 = if5 .before .before .before in
+    let if3 = if4 .before .before .before in
+    let if2 = if3 .before .before .before in
+    let if1 = if2 .before .before .before in
+    pass (if1 .if1 .left) (pass (if2 .if2 .left) (pass (if3 .if3 .left) (pass (if4 .if4 .left) (pass (if5 .if5 .left) (pass (if6 .if6 .left)
+    (pass (if7 .if7 .left) (pass (if8 .if8 .left) (c .later-agree .ensures))))))))))

@@ -1,6 +1,5 @@
 -- `amount` takes T bytes where they are there. Assumes nothing.
 use native.Mathlib.Omega.{arith}
-use denote.Ref.{now}
 use mathlib.Core.Path.{sym}
 use Rattle.reading.proofs.Whole.{whole-short, whole-cut, took-is}
 use borrow.Author.Needs.{needs}
@@ -8,18 +7,22 @@ use Rattle.reading.proofs.amount.Statement.{statement}
 use Rattle.reading.proofs.amount.Tie as tie
 
 returns : tie.Need-returns
-returns c = sym (whole-short (now (c .before .before .args .bytes)) _ _ (c .if1 .taken))
+returns c = sym (whole-short _ _ _ (c .if1 .taken))
 
 returns-2 : tie.Need-returns-2
 returns-2 c =
-    sym (whole-cut (now (c .before .before .before .before .args .bytes)) _ _ (omega arith) (omega (arith, c .before .word .ensures)))
+    let word = c .before in
+    sym (whole-cut _ _ _ (omega arith) (omega (arith, word .word .ensures)))
 
 returns-3 : tie.Need-returns-3
-returns-3 c = took-is (now (c .before .before .before .before .before .args .bytes)) 16 (omega (arith, c .before .before .word .ensures)) (omega (arith, c .before .before .word .ensures))
+returns-3 c =
+    let word = c .before .before in
+    took-is _ 16 (omega (arith, word .word .ensures)) (omega (arith, word .word .ensures))
 
 returns-4 : tie.Need-returns-4
 returns-4 c =
-    took-is (now (c .before .before .before .before .before .args .bytes)) (c .before .before .word .result) (omega (arith, c .before .before .word .ensures)) (omega (arith, c .before .before .word .ensures))
+    let word = c .before .before in
+    took-is _ _ (omega (arith, word .word .ensures)) (omega (arith, word .word .ensures))
 
 pub amount-spec : {M : Type 1} → statement M
 amount-spec = tie.close (tie.spec returns (λ c κs. search needs) (λ c. search needs) returns-2 returns-3 returns-4)

@@ -11,24 +11,34 @@ use Rattle.reading.proofs.parse_to.Tie as tie
 
 record-to-requires : tie.Need-record-to-requires
 record-to-requires c κs =
-    let s = now (c .before .before .before .before .before .before .args .bytes) in
-    let n = c .before .before .n .given in
-    let f = took-says s (n .0 .0) (sym (ap takenTells (n .1)) ∙ c .before .before .before .before .amount .ensures) in
+    let n-at = c .before .before in
+    let amount = n-at .before .before in
+    let start = amount .before .before in
+    let s = now (start .args .bytes) in
+    let n = n-at .n .given in
+    let f = took-says s (n .0 .0) (sym (ap takenTells (n .1)) ∙ amount .amount .ensures) in
     omega arith
 
 returns : tie.Need-returns
 returns c =
-    let a = c .before .before .before .before .before .before .before .args in
+    let lesser = c .before in
+    let n-at = lesser .before .before in
+    let amount = n-at .before .before in
+    let start = amount .before .before in
+    let a = start .args in
     let s = now (a .bytes) in
-    let n = c .before .before .before .n .given in
-    let e = sym (ap takenTells (n .1)) ∙ c .before .before .before .before .before .amount .ensures in
-    rw (took-whole s _ _ (n .0 .0) e, aged-is (a .age) s, ← took-says s (n .0 .0) e .0, ← c .before .lesser .ensures, ← c .record-to .ensures)
+    let n = n-at .n .given in
+    let e = sym (ap takenTells (n .1)) ∙ amount .amount .ensures in
+    rw (took-whole s _ _ (n .0 .0) e, aged-is (a .age) s, ← took-says s (n .0 .0) e .0, ← lesser .lesser .ensures, ← c .record-to .ensures)
 
 returns-2 : tie.Need-returns-2
 returns-2 c =
-    let s = now (c .before .before .before .before .before .before .args .bytes) in
-    let w = c .before .before .why .given in
-    c .refuse .ensures ∙ sym (refused-whole s _ _ (w .0 .0) (sym (ap takenTells (w .1)) ∙ c .before .before .before .before .amount .ensures))
+    let why = c .before .before in
+    let amount = why .before .before in
+    let start = amount .before .before in
+    let s = now (start .args .bytes) in
+    let w = why .why .given in
+    c .refuse .ensures ∙ sym (refused-whole s _ _ (w .0 .0) (sym (ap takenTells (w .1)) ∙ amount .amount .ensures))
 
 pub parse-to-spec : {M : Type 1} → statement M
 parse-to-spec =

@@ -82,7 +82,8 @@ module _ {M : Type 1} (𝓤 : URA M) (H : Heap 𝓤) (A : Atoms 𝓤) (W : Given
         alloc1 ! (λ l₀. alloc1 ! (λ l₁. alloc0 ! $ params1 ! $ pass1 ! (init ! 0 refl (tt, (tt, (record { fits = room .0 }, tt)))) $ pass0 ! $
         -- [bytes; ..; the result's room; ..; the token; what bytes owns]: the slice is looked into
         move ! (5 ∷ []) $ fsplit ! $ fsplit ! $ move ! (1 ∷ []) $ fsplit ! $ move ! (8 ∷ []) $ split ! $ move ! (3 ∷ 0 ∷ []) $
-        looks-slice ! tt u8 (Is u8) (shows 𝓤 H A u8) (uint-vals w8) (uint-tells w8) (uint-copy 𝓤 H A W w8) ys b o (λ q′. looked ! q′ ys b o (length ys) (omega arith) (λ each. shuts-slice ! tt u8 q′ ys b o $
+        looks-slice ! tt u8 (Is u8) (shows 𝓤 H A u8) (uint-vals w8) (uint-tells w8) (uint-copy 𝓤 H A W w8) ys b o
+        (λ q′. looked ! q′ ys b o (length ys) (omega arith) (λ each. shuts-slice ! tt u8 q′ ys b o $
         -- [the token; the slice's three parts and `true`; `true`; bytes; ..; the result's room; ..]
         assigns ! (of-opd ! (unit-lit !)) (from ! (stop !)) (init ! 8 refl (tt, tt)) $
         returns ! (look ! 8 refl) $ forget ! 6 refl $ forget ! 8 refl $ move ! (8 ∷ 9 ∷ []) $ free1 ! $ move ! (6 ∷ 7 ∷ []) $ free1 ! $ free0 ! $

@@ -10,4 +10,4 @@ packed-spec =
     tie.close
     (tie.spec
     (λ c κs. tt)
-    (λ c. ap answerTells (c .packed .ensures) ∙ unpacked (c .before .args .told) (c .before .pre)))
+    (λ c. ap answerTells (c .packed .ensures) ∙ unpacked _ (c .before .pre)))

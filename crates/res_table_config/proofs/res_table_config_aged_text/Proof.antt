@@ -1,5 +1,4 @@
 -- What `aged_text` answers, told and packed. Assumes nothing.
-use denote.Ref.{now}
 use Rattle.res_table_config.proofs.Small.{aged-small}
 use Rattle.res_table_config.proofs.Answers.{written-fits, written-told}
 use borrow.Author.Needs.{needs}
@@ -11,6 +10,13 @@ res-table-config-aged-text-spec =
     tie.close
     (tie.spec
     (λ c κs. tt) (λ c κs. tt) (λ c κs. tt)
-    (λ c κs. written-fits (c .before .before .before .aged-text .result) _ _ _ (c .before .before .before .aged-text .ensures) (c .told .ensures) (aged-small (c .before .before .before .before .before .before .before .before .args .age) (now (c .before .before .before .before .before .before .before .before .args .bytes)) (now (c .before .before .before .before .before .before .before .before .args .out)) (c .before .before .before .before .before .are-bytes .ensures)))
+    (λ c κs.
+    let aged-text = c .before .before .before in
+    let are-bytes = aged-text .before .before in
+    written-fits (aged-text .aged-text .result) _ _ _ (aged-text .aged-text .ensures) (c .told .ensures)
+    (aged-small _ _ _ (are-bytes .are-bytes .ensures)))
     (λ c. search needs)
-    (λ c. written-told (c .before .before .before .before .aged-text .result) _ _ _ (c .before .before .before .before .aged-text .ensures) (c .before .told .ensures) _ (c .packed .ensures)))
+    (λ c.
+    let told = c .before in
+    let aged-text = told .before .before .before in
+    written-told (aged-text .aged-text .result) _ _ _ (aged-text .aged-text .ensures) (told .told .ensures) _ (c .packed .ensures)))

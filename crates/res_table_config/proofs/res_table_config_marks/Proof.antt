@@ -1,5 +1,4 @@
 -- What `marks` answers, told and packed. Assumes nothing.
-use denote.Ref.{now}
 use Rattle.res_table_config.proofs.Small.{marks-small}
 use Rattle.res_table_config.proofs.Answers.{written-fits, written-told}
 use borrow.Author.Needs.{needs}
@@ -11,6 +10,11 @@ res-table-config-marks-spec =
     tie.close
     (tie.spec
     (λ c κs. tt) (λ c κs. tt)
-    (λ c κs. written-fits (c .before .before .before .marks .result) _ _ _ (c .before .before .before .marks .ensures) (c .told .ensures) (marks-small (c .before .before .before .before .before .before .before .args .age) (now (c .before .before .before .before .before .before .before .args .bytes)) (now (c .before .before .before .before .before .before .before .args .out))))
+    (λ c κs.
+    let marks = c .before .before .before in
+    written-fits (marks .marks .result) _ _ _ (marks .marks .ensures) (c .told .ensures) (marks-small _ _ _))
     (λ c. search needs)
-    (λ c. written-told (c .before .before .before .before .marks .result) _ _ _ (c .before .before .before .before .marks .ensures) (c .before .told .ensures) _ (c .packed .ensures)))
+    (λ c.
+    let told = c .before in
+    let marks = told .before .before .before in
+    written-told (marks .marks .result) _ _ _ (marks .marks .ensures) (told .told .ensures) _ (c .packed .ensures)))

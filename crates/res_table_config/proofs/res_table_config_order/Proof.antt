@@ -12,10 +12,44 @@ res-table-config-order-spec =
     tie.close
     (tie.spec
     (λ c κs. tt) (λ c κs. tt)
-    (λ c κs. fits _ _ (first-refused (now (c .before .before .before .before .before .before .args .a)) (now (c .before .before .before .before .before .before .args .b)) (c .before .before .before .parse .result) (c .before .before .told .result) (c .before .before .before .parse .ensures) (c .before .before .told .ensures) (c .if1 .taken)) (order-small _ _))
-    (λ c. c .packed .ensures ∙ first-refused (now (c .before .before .before .before .before .before .before .args .a)) (now (c .before .before .before .before .before .before .before .args .b)) (c .before .before .before .before .parse .result) (c .before .before .before .told .result) (c .before .before .before .before .parse .ensures) (c .before .before .before .told .ensures) (c .before .if1 .taken))
+    (λ c κs.
+    let told = c .before .before in
+    let parse = told .before in
+    let start = parse .before .before .before in
+    fits _ _ (first-refused _ (now (start .args .b)) (parse .parse .result) _ (parse .parse .ensures) (told .told .ensures) (c .if1 .taken))
+    (order-small _ _))
+    (λ c.
+    let if1 = c .before in
+    let told = if1 .before .before in
+    let parse = told .before in
+    c .packed .ensures ∙ first-refused _ _ (parse .parse .result) _ (parse .parse .ensures) (told .told .ensures) (if1 .if1 .taken))
     (λ c κs. tt) (λ c κs. tt)
-    (λ c κs. fits _ _ (second-refused (now (c .before .before .before .before .before .before .before .before .before .before .args .a)) (now (c .before .before .before .before .before .before .before .before .before .before .args .b)) (c .before .before .before .before .before .before .before .parse .result) (c .before .before .before .before .before .before .told .result) (c .before .before .before .before .before .before .before .parse .ensures) (c .before .before .before .before .before .before .told .ensures) (c .before .before .before .before .if1 .left) (c .before .before .before .parse2 .result) (c .before .before .told2 .result) (c .before .before .before .parse2 .ensures) (c .before .before .told2 .ensures) (c .if2 .taken)) (order-small _ _))
-    (λ c. c .packed2 .ensures ∙ second-refused (now (c .before .before .before .before .before .before .before .before .before .before .before .args .a)) (now (c .before .before .before .before .before .before .before .before .before .before .before .args .b)) (c .before .before .before .before .before .before .before .before .parse .result) (c .before .before .before .before .before .before .before .told .result) (c .before .before .before .before .before .before .before .before .parse .ensures) (c .before .before .before .before .before .before .before .told .ensures) (c .before .before .before .before .before .if1 .left) (c .before .before .before .before .parse2 .result) (c .before .before .before .told2 .result) (c .before .before .before .before .parse2 .ensures) (c .before .before .before .told2 .ensures) (c .before .if2 .taken))
+    (λ c κs.
+    let told2 = c .before .before in
+    let parse2 = told2 .before in
+    let if1 = parse2 .before in
+    let told = if1 .before .before in
+    let parse = told .before in
+    fits _ _ (second-refused _ _ (parse .parse .result) _ (parse .parse .ensures) (told .told .ensures) (if1 .if1 .left)
+    (parse2 .parse2 .result) _ (parse2 .parse2 .ensures) (told2 .told2 .ensures) (c .if2 .taken)) (order-small _ _))
+    (λ c.
+    let if2 = c .before in
+    let told2 = if2 .before .before in
+    let parse2 = told2 .before in
+    let if1 = parse2 .before in
+    let told = if1 .before .before in
+    let parse = told .before in
+    c .packed2 .ensures
+    ∙ second-refused _ _ (parse .parse .result) _ (parse .parse .ensures) (told .told .ensures) (if1 .if1 .left) (parse2 .parse2 .result) _
+    (parse2 .parse2 .ensures) (told2 .told2 .ensures) (if2 .if2 .taken))
     (λ c κs. tt) (λ c κs. tt) (λ c. search needs)
-    (λ c. both-read (now (c .before .before .before .before .before .before .before .before .before .before .before .before .before .before .args .a)) (now (c .before .before .before .before .before .before .before .before .before .before .before .before .before .before .args .b)) (c .before .before .before .before .before .before .before .before .before .before .before .parse .result) (c .before .before .before .before .before .before .before .before .before .before .told .result) (c .before .before .before .before .before .before .before .before .before .before .before .parse .ensures) (c .before .before .before .before .before .before .before .before .before .before .told .ensures) (c .before .before .before .before .before .before .before .before .if1 .left) (c .before .before .before .before .before .before .before .parse2 .result) (c .before .before .before .before .before .before .told2 .result) (c .before .before .before .before .before .before .before .parse2 .ensures) (c .before .before .before .before .before .before .told2 .ensures) (c .before .before .before .before .if2 .left) (c .before .cmp .result) _ (c .before .cmp .ensures) (c .number .ensures)))
+    (λ c.
+    let cmp = c .before in
+    let if2 = cmp .before .before .before in
+    let told2 = if2 .before .before in
+    let parse2 = told2 .before in
+    let if1 = parse2 .before in
+    let told = if1 .before .before in
+    let parse = told .before in
+    both-read _ _ (parse .parse .result) _ (parse .parse .ensures) (told .told .ensures) (if1 .if1 .left) (parse2 .parse2 .result) _
+    (parse2 .parse2 .ensures) (told2 .told2 .ensures) (if2 .if2 .left) _ _ (cmp .cmp .ensures) (c .number .ensures)))

@@ -1,6 +1,5 @@
 -- What `amount` answers, told and packed. Assumes nothing.
 use mathlib.Core.Path.{_∙_}
-use denote.Ref.{now}
 use Rattle.res_table_config.proofs.Small.{take-small}
 use Rattle.res_table_config.proofs.Answers.{fits}
 use Rattle.res_table_config.proofs.res_table_config_take.Statement.{statement}
@@ -11,5 +10,8 @@ res-table-config-take-spec =
     tie.close
     (tie.spec
     (λ c κs. tt) (λ c κs. tt) (λ c κs. tt)
-    (λ c κs. fits _ _ (c .told .ensures ∙ c .before .amount .ensures) (take-small (now (c .before .before .before .before .args .bytes)) (c .before .before .are-bytes .ensures)))
+    (λ c κs.
+    let amount = c .before in
+    let are-bytes = amount .before in
+    fits _ _ (c .told .ensures ∙ amount .amount .ensures) (take-small _ (are-bytes .are-bytes .ensures)))
     (λ c. c .packed .ensures ∙ c .before .told .ensures ∙ c .before .before .amount .ensures))

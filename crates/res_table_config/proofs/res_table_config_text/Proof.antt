@@ -1,5 +1,4 @@
 -- What `plain_text` answers, told and packed. Assumes nothing.
-use denote.Ref.{now}
 use Rattle.res_table_config.proofs.Small.{text-small}
 use Rattle.res_table_config.proofs.Answers.{written-fits, written-told}
 use borrow.Author.Needs.{needs}
@@ -11,6 +10,13 @@ res-table-config-text-spec =
     tie.close
     (tie.spec
     (λ c κs. tt) (λ c κs. tt) (λ c κs. tt)
-    (λ c κs. written-fits (c .before .before .before .plain-text .result) _ _ _ (c .before .before .before .plain-text .ensures) (c .told .ensures) (text-small (now (c .before .before .before .before .before .before .before .before .args .bytes)) (now (c .before .before .before .before .before .before .before .before .args .out)) (c .before .before .before .before .before .are-bytes .ensures)))
+    (λ c κs.
+    let plain-text = c .before .before .before in
+    let are-bytes = plain-text .before .before in
+    written-fits (plain-text .plain-text .result) _ _ _ (plain-text .plain-text .ensures) (c .told .ensures)
+    (text-small _ _ (are-bytes .are-bytes .ensures)))
     (λ c. search needs)
-    (λ c. written-told (c .before .before .before .before .plain-text .result) _ _ _ (c .before .before .before .before .plain-text .ensures) (c .before .told .ensures) _ (c .packed .ensures)))
+    (λ c.
+    let told = c .before in
+    let plain-text = told .before .before .before in
+    written-told (plain-text .plain-text .result) _ _ _ (plain-text .plain-text .ensures) (told .told .ensures) _ (c .packed .ensures)))

@@ -1,11 +1,11 @@
 -- Each field is as it is defined. Assumes nothing.
 use Rattle.sheet.specs.Sheet.{sheetOf}
-use Rattle.sheet.proofs.Made.{made, same}
+use Rattle.sheet.proofs.Sheets.{same}
 use Rattle.sheet.proofs.sheet_of.Statement.{statement}
 use Rattle.sheet.proofs.sheet_of.Tie as tie
 
 returns : tie.Need-returns
-unfolding made sheetOf
+unfolding sheetOf
 returns c =
     let navigation = c .before in
     let nav-hidden = navigation .before in
@@ -33,32 +33,34 @@ returns c =
     let second = screen .before in
     let layout = second .before in
     let codes = layout .before in
-    same (rw (codes .get-mcc-mnc .ensures))
-    (rw (codes .get-mcc-mnc .ensures) at (network .network-code .ensures))
-    (rw (layout .get-screen-layout-ui-smallest-width .ensures))
-    (rw (dp .get-screen-width-height-dp .ensures))
-    (rw (dp .get-screen-width-height-dp .ensures))
-    (rw (sides .get-screen-width-height .ensures))
-    (rw (sides .get-screen-width-height .ensures))
-    (rw (version .get-sdk-minor-version .ensures))
-    (rw (version .get-sdk-minor-version .ensures))
-    (rw (inflection .get-grammatical-inflection .ensures) at (gender .from .ensures))
-    (rw (layout .get-screen-layout-ui-smallest-width .ensures) at (layout-dir .from2 .ensures))
-    (rw (layout .get-screen-layout-ui-smallest-width .ensures) at (screen-size .from3 .ensures))
-    (rw (layout .get-screen-layout-ui-smallest-width .ensures) at (screen-long .from4 .ensures))
-    (rw (second .get-screen-layout-2-color-mode .ensures) at (screen-round .from5 .ensures))
-    (rw (second .get-screen-layout-2-color-mode .ensures) at (wide-color-gamut .from6 .ensures))
-    (rw (second .get-screen-layout-2-color-mode .ensures) at (hdr .from7 .ensures))
-    (rw (screen .get-orientation-touchscreen-density .ensures) at (orientation .from8 .ensures))
-    (rw (layout .get-screen-layout-ui-smallest-width .ensures) at (ui-mode .from9 .ensures))
-    (rw (layout .get-screen-layout-ui-smallest-width .ensures) at (ui-mode-night .from10 .ensures))
-    (rw (screen .get-orientation-touchscreen-density .ensures) at (density .from11 .ensures))
-    (rw (screen .get-orientation-touchscreen-density .ensures) at (touchscreen .from12 .ensures))
-    (rw (input .get-keyboard-navigation-input-flags .ensures) at (keys-hidden .from13 .ensures))
-    (rw (input .get-keyboard-navigation-input-flags .ensures) at (keyboard .from14 .ensures))
-    (rw (input .get-keyboard-navigation-input-flags .ensures) at (nav-hidden .from15 .ensures))
-    (rw (input .get-keyboard-navigation-input-flags .ensures) at (navigation .from16 .ensures))
-    (c .said .ensures)
+    same record {
+      mcc = rw (codes .get-mcc-mnc .ensures);
+      «network_code» = rw (codes .get-mcc-mnc .ensures) at (network .network-code .ensures);
+      «smallest_screen_width_dp» = rw (layout .get-screen-layout-ui-smallest-width .ensures);
+      «screen_width_dp» = rw (dp .get-screen-width-height-dp .ensures);
+      «screen_height_dp» = rw (dp .get-screen-width-height-dp .ensures);
+      «screen_width» = rw (sides .get-screen-width-height .ensures);
+      «screen_height» = rw (sides .get-screen-width-height .ensures);
+      «sdk_version» = rw (version .get-sdk-minor-version .ensures);
+      «minor_version» = rw (version .get-sdk-minor-version .ensures);
+      «grammatical_gender» = rw (inflection .get-grammatical-inflection .ensures) at (gender .from .ensures);
+      «layout_dir» = rw (layout .get-screen-layout-ui-smallest-width .ensures) at (layout-dir .from2 .ensures);
+      «screen_size» = rw (layout .get-screen-layout-ui-smallest-width .ensures) at (screen-size .from3 .ensures);
+      «screen_long» = rw (layout .get-screen-layout-ui-smallest-width .ensures) at (screen-long .from4 .ensures);
+      «screen_round» = rw (second .get-screen-layout-2-color-mode .ensures) at (screen-round .from5 .ensures);
+      «wide_color_gamut» = rw (second .get-screen-layout-2-color-mode .ensures) at (wide-color-gamut .from6 .ensures);
+      hdr = rw (second .get-screen-layout-2-color-mode .ensures) at (hdr .from7 .ensures);
+      orientation = rw (screen .get-orientation-touchscreen-density .ensures) at (orientation .from8 .ensures);
+      «ui_mode» = rw (layout .get-screen-layout-ui-smallest-width .ensures) at (ui-mode .from9 .ensures);
+      «ui_mode_night» = rw (layout .get-screen-layout-ui-smallest-width .ensures) at (ui-mode-night .from10 .ensures);
+      density = rw (screen .get-orientation-touchscreen-density .ensures) at (density .from11 .ensures);
+      touchscreen = rw (screen .get-orientation-touchscreen-density .ensures) at (touchscreen .from12 .ensures);
+      «keys_hidden» = rw (input .get-keyboard-navigation-input-flags .ensures) at (keys-hidden .from13 .ensures);
+      keyboard = rw (input .get-keyboard-navigation-input-flags .ensures) at (keyboard .from14 .ensures);
+      «nav_hidden» = rw (input .get-keyboard-navigation-input-flags .ensures) at (nav-hidden .from15 .ensures);
+      navigation = rw (input .get-keyboard-navigation-input-flags .ensures) at (navigation .from16 .ensures);
+      said = c .said .ensures;
+    }
 
 pub sheet-of-spec : {M : Type 1} → statement M
 sheet-of-spec =

@@ -9,5 +9,9 @@ measure-spec =
     tie.close
     (tie.spec
     (λ c κs. search needs) (λ c. search needs) (λ c. search needs)
-    (λ c. measured-well (c .before .before .before .before .before .args .src .now) (c .before .before .before .first .ensures) (c .before .n .given .1) (c .before .before .before .before .before .pre))
-    (λ c. measured-ill (c .before .before .before .before .before .args .src .now) (c .before .before .before .first .ensures) (c .before .n2 .given .1)))
+    (λ c.
+    let n = c .before in
+    let first = n .before .before in
+    let start = first .before .before in
+    measured-well _ (first .first .ensures) (n .n .given .1) (start .pre))
+    (λ c. let n = c .before in measured-ill _ (n .before .before .first .ensures) (n .n2 .given .1)))

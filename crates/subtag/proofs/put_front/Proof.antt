@@ -11,8 +11,22 @@ put-front-spec =
     tie.close
     (tie.spec
     (λ c κs. search needs) (λ c. search needs)
-    (λ c. sym (length-take-le _ _ (well-in (c .before .before .before .before .before .before .before .before .args .src .now) (c .before .before .before .before .before .first .ensures) (c .before .before .before .n .given .1) (c .before .before .before .before .before .before .before .before .pre))))
+    (λ c.
+    let n = c .before .before .before in
+    let first = n .before .before in
+    let start = first .before .before .before in
+    sym (length-take-le _ _ (well-in _ (first .first .ensures) (n .n .given .1) (start .pre))))
     (λ c κs. tt) (λ c. search needs) (λ c. search needs) (λ c κs. tt) (λ c. search needs)
-    (λ c. fronted-well (c .before .before .before .before .before .before .before .before .first .ensures) (c .before .before .before .before .before .before .n .given .1) (c .before .before .put .ensures))
+    (λ c.
+    let put = c .before .before in
+    let put-arg = put .before .before in
+    let n = put-arg .before .before in
+    let first = n .before .before in
+    fronted-well (first .first .ensures) (n .n .given .1) (put .put .ensures))
     (λ c. search needs)
-    (λ c. fronted-ill (c .before .before .before .before .before .before .before .before .first .ensures) (c .before .before .before .before .before .before .n2 .given .1) (c .before .before .put2 .ensures)))
+    (λ c.
+    let put = c .before .before in
+    let put-arg = put .before .before in
+    let n = put-arg .before .before in
+    let first = n .before .before in
+    fronted-ill (first .first .ensures) (n .n2 .given .1) (put .put2 .ensures)))

@@ -13,4 +13,7 @@ put-subtag-spec =
     (λ c κs. tt)
     (λ c. sym (length-take-le _ _ (c .before .before .trim .ensures .0)))
     (λ c κs. tt) (λ c. search needs)
-    (λ c. rw (subtag-is _, ← c .before .before .before .before .before .trim .ensures .1) (c .before .before .put-replaced .ensures)))
+    (λ c.
+    let put-replaced = c .before .before in
+    let trim = put-replaced .before .before .before in
+    rw (subtag-is _, ← trim .trim .ensures .1) (put-replaced .put-replaced .ensures)))

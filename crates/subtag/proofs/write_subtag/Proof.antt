@@ -39,7 +39,12 @@ write-subtag-spec =
     (λ c κs. tt)
     (λ c. sym (length-take-le _ _ (c .before .trim .ensures .0)))
     (λ c κs. tt)
-    (λ c. sym (length-take-le _ _ (c .before .before .before .before .before .trim .ensures .0)))
+    (λ c. let fits = c .before .before .before in sym (length-take-le _ _ (fits .before .before .trim .ensures .0)))
     (λ c κs. tt) (λ c. search needs)
-    (λ c. fits _ _ _ _ (c .before .before .before .before .before .before .before .before .trim .ensures .1) (c .before .before .before .before .before .before .fits2 .ensures) _ _ (c .before .before .before .before .before .if1 .taken) (c .before .before .put-replaced .ensures))
+    (λ c.
+    let put-replaced = c .before .before in
+    let if1 = put-replaced .before .before .before in
+    let fits-at = if1 .before in
+    let trim = fits-at .before .before in
+    fits _ _ _ _ (trim .trim .ensures .1) (fits-at .fits2 .ensures) _ _ (if1 .if1 .taken) (put-replaced .put-replaced .ensures))
     (λ c. short _ _ _ _ (c .before .before .before .trim .ensures .1) (c .before .fits2 .ensures) (c .if1 .left)))

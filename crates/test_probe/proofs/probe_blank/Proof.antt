@@ -9,4 +9,7 @@ probe-blank-spec =
     tie.close
     (tie.spec
     (λ c κs. search needs) (λ c κs. search needs) (λ c κs. search needs)
-    (λ c. equal-told (c .before .before .before .parse .result) _ _ _ _ (c .before .before .before .parse .ensures) (c .before .blank .ensures) (c .eq .ensures)))
+    (λ c.
+    let blank = c .before in
+    let parse = blank .before .before in
+    equal-told (parse .parse .result) _ _ _ _ (parse .parse .ensures) (blank .blank .ensures) (c .eq .ensures)))

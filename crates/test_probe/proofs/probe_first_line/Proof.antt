@@ -9,4 +9,8 @@ probe-first-line-spec =
     tie.close
     (tie.spec
     (λ c κs. tt) (λ c κs. search needs) (λ c κs. tt) (λ c κs. tt) (λ c. search needs)
-    (λ c. line-comes (c .before .before .before .before .line .result) _ _ (rw (c .before .before .before .before .before .before .first .ensures) at (c .before .before .before .before .line .ensures)) _ _ (c .before .told .ensures) (c .packed .ensures)))
+    (λ c.
+    let told = c .before in
+    let line = told .before .before .before in
+    let first = line .before .before in
+    line-comes (line .line .result) _ _ (rw (first .first .ensures) at (line .line .ensures)) _ _ (told .told .ensures) (c .packed .ensures)))

@@ -9,4 +9,7 @@ probe-line-spec =
     tie.close
     (tie.spec
     (λ c κs. tt) (λ c κs. tt) (λ c κs. tt) (λ c. search needs)
-    (λ c. line-comes (c .before .before .before .before .line .result) _ _ (c .before .before .before .before .line .ensures) _ _ (c .before .told .ensures) (c .packed .ensures)))
+    (λ c.
+    let told = c .before in
+    let line = told .before .before .before in
+    line-comes (line .line .result) _ _ (line .line .ensures) _ _ (told .told .ensures) (c .packed .ensures)))

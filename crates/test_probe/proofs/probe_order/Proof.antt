@@ -9,4 +9,9 @@ probe-order-spec =
     tie.close
     (tie.spec
     (λ c κs. search needs) (λ c κs. search needs) (λ c κs. search needs) (λ c κs. search needs)
-    (λ c. order-told (c .before .before .before .before .before .parse .result) (c .before .before .before .before .parse2 .result) _ _ (c .before .cmp .result) _ (c .before .before .before .before .before .parse .ensures) (c .before .before .before .before .parse2 .ensures) (c .before .cmp .ensures) (c .number .ensures)))
+    (λ c.
+    let cmp = c .before in
+    let parse2 = cmp .before .before .before in
+    let parse = parse2 .before in
+    order-told (parse .parse .result) (parse2 .parse2 .result) _ _ (cmp .cmp .result) _ (parse .parse .ensures) (parse2 .parse2 .ensures)
+    (cmp .cmp .ensures) (c .number .ensures)))

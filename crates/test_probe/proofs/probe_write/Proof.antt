@@ -9,4 +9,7 @@ probe-write-spec =
     tie.close
     (tie.spec
     (λ c κs. tt) (λ c κs. tt) (λ c κs. tt) (λ c. search needs)
-    (λ c. comes (c .before .before .before .before .write-sized .result) _ _ _ _ (c .before .before .before .before .write-sized .ensures) (c .before .told .ensures) (c .packed .ensures)))
+    (λ c.
+    let told = c .before in
+    let write-sized = told .before .before .before in
+    comes (write-sized .write-sized .result) _ _ _ _ (write-sized .write-sized .ensures) (told .told .ensures) (c .packed .ensures)))

@@ -12,8 +12,31 @@ aged-text-spec =
     (tie.spec
     (λ c κs. tt) (λ c. aged-unknown _ _ _ (sym (not-true _ (c .if1 .taken)) ∙ c .before .is-age .ensures)) (λ c κs. tt)
     (λ c. search needs) (λ c. search needs) (λ c. search needs) (λ c κs. tt)
-    (λ c. aged-held _ _ _ (c .before .before .before .before .before .before .amount .ensures) _ (sym (not-false _ (c .before .before .before .before .before .before .before .if1 .left)) ∙ c .before .before .before .before .before .before .before .before .is-age .ensures) _ _ (c .before .before .before .before .taken .given .1) (c .before .late-bytes .ensures) (c .if2 .taken))
+    (λ c.
+    let late-bytes = c .before in
+    let taken = late-bytes .before .before .before in
+    let amount = taken .before .before in
+    let if1 = amount .before in
+    let is-age = if1 .before in
+    aged-held _ _ _ (amount .amount .ensures) _ (sym (not-false _ (if1 .if1 .left)) ∙ is-age .is-age .ensures) _ _ (taken .taken .given .1)
+    (late-bytes .late-bytes .ensures) (c .if2 .taken))
     (λ c κs. tt) (λ c κs. tt)
-    (λ c. aged-refused _ _ _ (c .before .before .before .amount .ensures) _ (sym (not-false _ (c .before .before .before .before .if1 .left)) ∙ c .before .before .before .before .before .is-age .ensures) _ (c .before .why .given .1))
+    (λ c.
+    let why = c .before in
+    let amount = why .before .before in
+    let if1 = amount .before in
+    let is-age = if1 .before in
+    aged-refused _ _ _ (amount .amount .ensures) _ (sym (not-false _ (if1 .if1 .left)) ∙ is-age .is-age .ensures) _ (why .why .given .1))
     (λ c. search needs)
-    (λ c. aged-shown _ _ _ (c .before .before .before .before .before .before .before .before .before .before .before .before .amount .ensures) _ (sym (not-false _ (c .before .before .before .before .before .before .before .before .before .before .before .before .before .if1 .left)) ∙ c .before .before .before .before .before .before .before .before .before .before .before .before .before .before .is-age .ensures) _ _ (c .before .before .before .before .before .parse-aged .result) _ (c .before .before .before .before .before .before .before .before .before .before .taken .given .1) (c .before .before .before .before .before .before .before .late-bytes .ensures) (c .before .before .before .before .before .before .if2 .left) (c .before .before .before .before .before .parse-aged .ensures) (c .before .before .as-string .ensures)))
+    (λ c.
+    let as-string = c .before .before in
+    let parse-aged = as-string .before .before .before in
+    let if2 = parse-aged .before in
+    let late-bytes = if2 .before in
+    let taken = late-bytes .before .before .before in
+    let amount = taken .before .before in
+    let if1 = amount .before in
+    let is-age = if1 .before in
+    aged-shown _ _ _ (amount .amount .ensures) _ (sym (not-false _ (if1 .if1 .left)) ∙ is-age .is-age .ensures) _ _
+    (parse-aged .parse-aged .result) _ (taken .taken .given .1) (late-bytes .late-bytes .ensures) (if2 .if2 .left)
+    (parse-aged .parse-aged .ensures) (as-string .as-string .ensures)))

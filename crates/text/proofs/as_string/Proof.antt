@@ -12,15 +12,21 @@ use Rattle.text.proofs.as_string.Tie as tie
 
 returns : tie.Need-returns
 returns c =
-    let s = c .before .before .before .before .before .before in
-    let l = text-long (s .args .r) _ (s .good .1 .0) in
-    put-fits (omega (arith, l)) (c .before .before .put-text .ensures)
+    let put-text = c .before .before in
+    let if1 = put-text .before .before in
+    let start = if1 .before .before in
+    let l = text-long (start .args .r) _ (start .good .1 .0) in
+    put-fits (omega (arith, l)) (put-text .put-text .ensures)
 
 returns-2 : tie.Need-returns-2
 returns-2 c =
-    let s = c .before .before .before .before .before .before .before .before .before .before in
-    let l = text-long (s .args .r) _ (s .good .1 .0) in
-    c .before .before .write .ensures ∙ copied _ (omega (arith, l)) (c .before .before .before .before .before .before .put-text2 .ensures)
+    let write = c .before .before in
+    let own = write .before .before .before in
+    let put-text = own .before in
+    let if1 = put-text .before .before in
+    let start = if1 .before .before in
+    let l = text-long (start .args .r) _ (start .good .1 .0) in
+    write .write .ensures ∙ copied _ (omega (arith, l)) (put-text .put-text2 .ensures)
 
 pub as-string-spec : {M : Type 1} → statement M
 as-string-spec =

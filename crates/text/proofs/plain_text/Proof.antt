@@ -10,4 +10,10 @@ plain-text-spec =
     (tie.spec
     (λ c κs. tt) (λ c. search needs) (λ c. search needs) (λ c κs. tt) (λ c κs. tt)
     (λ c. plain-refused _ _ _ (c .before .before .before .amount .ensures) _ (c .before .refusal .given .1)) (λ c. search needs)
-    (λ c. plain-whole _ _ _ (c .before .before .before .before .before .before .before .before .amount .ensures) _ (c .before .before .before .before .before .parse .result) _ (c .before .before .before .before .before .before .enum-told .given .1) (c .before .before .before .before .before .parse .ensures) (c .before .before .as-string .ensures)))
+    (λ c.
+    let as-string = c .before .before in
+    let parse = as-string .before .before .before in
+    let enum-told = parse .before in
+    let amount = enum-told .before .before in
+    plain-whole _ _ _ (amount .amount .ensures) _ (parse .parse .result) _ (enum-told .enum-told .given .1) (parse .parse .ensures)
+    (as-string .as-string .ensures)))

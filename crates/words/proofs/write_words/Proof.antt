@@ -11,9 +11,11 @@ use Rattle.words.proofs.write_words.Tie as tie
 
 returns : tie.Need-returns
 returns c =
-    let s = c .before .before .before .before .before .before .before .before .before in
-    c .before .before .write .ensures
-    ∙ copied _ (omega (arith, words-long (s .args .kind) _ (s .good .1 .0))) (c .before .before .before .before .before .before .put-words .ensures)
+    let write = c .before .before in
+    let own = write .before .before .before in
+    let put-words = own .before in
+    let start = put-words .before .before .before in
+    write .write .ensures ∙ copied _ (omega (arith, words-long (start .args .kind) _ (start .good .1 .0))) (put-words .put-words .ensures)
 
 pub write-words-spec : {M : Type 1} → statement M
 write-words-spec =

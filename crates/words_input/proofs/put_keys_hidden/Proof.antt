@@ -10,8 +10,8 @@ put-keys-hidden-spec =
     (tie.spec
     (λ c. search needs) (λ c. search needs) (λ c. search needs) (λ c κs. tt) (λ c. search needs) (λ c. search needs) (λ c κs. tt)
     (λ c. search needs) (λ c. search needs) (λ c κs. tt) (λ c. rw (c .enum-told .given .1) put-nil) (λ c. search needs)
-    (λ c. rw (c .before .before .before .before .before .enum-told2 .given .1) (c .before .before .put .ensures))
+    (λ c. let put = c .before .before in rw (put .before .before .before .enum-told2 .given .1) (put .put .ensures))
     (λ c. search needs)
-    (λ c. rw (c .before .before .before .before .before .enum-told3 .given .1) (c .before .before .put2 .ensures))
+    (λ c. let put = c .before .before in rw (put .before .before .before .enum-told3 .given .1) (put .put2 .ensures))
     (λ c. search needs)
-    (λ c. rw (c .before .before .before .before .before .enum-told4 .given .1) (c .before .before .put3 .ensures)))
+    (λ c. let put = c .before .before in rw (put .before .before .before .enum-told4 .given .1) (put .put3 .ensures)))

@@ -13,16 +13,20 @@ put-ui-mode-spec =
     (λ c κs. tt) (λ c. search needs) (λ c. search needs) (λ c κs. tt) (λ c. search needs) (λ c. search needs) (λ c κs. tt)
     (λ c. search needs) (λ c. search needs) (λ c. search needs) (λ c κs. tt) (λ c. rw (c .enum-told .given .1) put-nil)
     (λ c. rw (c .enum-told2 .given .1) put-nil) (λ c. search needs)
-    (λ c. rw (c .before .before .before .before .before .enum-told3 .given .1) (c .before .before .put .ensures))
+    (λ c. let put = c .before .before in rw (put .before .before .before .enum-told3 .given .1) (put .put .ensures))
     (λ c. search needs)
-    (λ c. rw (c .before .before .before .before .before .enum-told4 .given .1) (c .before .before .put2 .ensures))
+    (λ c. let put = c .before .before in rw (put .before .before .before .enum-told4 .given .1) (put .put2 .ensures))
     (λ c. search needs)
-    (λ c. rw (c .before .before .before .before .before .enum-told5 .given .1) (c .before .before .put3 .ensures))
+    (λ c. let put = c .before .before in rw (put .before .before .before .enum-told5 .given .1) (put .put3 .ensures))
     (λ c. search needs)
-    (λ c. rw (c .before .before .before .before .before .enum-told6 .given .1) (c .before .before .put4 .ensures))
+    (λ c. let put = c .before .before in rw (put .before .before .before .enum-told6 .given .1) (put .put4 .ensures))
     (λ c. search needs)
-    (λ c. rw (c .before .before .before .before .before .enum-told7 .given .1) (c .before .before .put5 .ensures))
+    (λ c. let put = c .before .before in rw (put .before .before .before .enum-told7 .given .1) (put .put5 .ensures))
     (λ c. search needs)
-    (λ c. rw (c .before .before .before .before .before .enum-told8 .given .1) (c .before .before .put6 .ensures))
+    (λ c. let put = c .before .before in rw (put .before .before .before .enum-told8 .given .1) (put .put6 .ensures))
     (λ c. search needs)
-    (λ c. rw (c .before .before .before .before .before .before .kind .given .1) (c .before .before .put-label .ensures)))
+    (λ c.
+    let put-label = c .before .before in
+    let put-label-arg = put-label .before .before in
+    let kind = put-label-arg .before .before in
+    rw (kind .kind .given .1) (put-label .put-label .ensures)))

@@ -33,7 +33,7 @@ loop-again c =
 same-length : tie.Need-same-length Inv-loop μ-loop
 same-length c =
     let l = c .before .loop in
-    ap length (l .inv .1 .1) ∙ cleared-length (now (c .before .before .args .out)) (l .i) (omega arith)
+    ap length (l .inv .1 .1) ∙ cleared-length _ (l .i) (omega arith)
 
 returns : tie.Need-returns Inv-loop μ-loop
 returns c =

@@ -20,23 +20,30 @@ abbrev μ-loop : tie.MeasureT-loop
 μ-loop r t f₀ f = 15 - f
 
 loop-holds : tie.Need-loop-holds Inv-loop μ-loop
-loop-holds c = (omega arith, c .pre, each-none (keeps (c .args .r)))
+loop-holds c = (omega arith, c .pre, each-none (keeps _))
 
 sub-late-bytes : tie.Need-sub-late-bytes Inv-loop μ-loop
 sub-late-bytes c =
-    let l = c .before .before .before .before .loop in
+    let loop-test = c .before .before .before in
+    let loop = loop-test .before in
+    let l = loop .loop in
     let h : l .f < 15 = omega arith in
     omega (arith, start-end (l .f) h)
 
 returns : tie.Need-returns Inv-loop μ-loop
 unfolding tidy
 returns c =
-    let r = c .before .before .before .before .before .before .before .args .r in
-    let l = c .before .before .before .before .before .before .loop in
+    let late-bytes = c .before in
+    let field-of = late-bytes .before .before in
+    let if1 = field-of .before in
+    let loop = if1 .before .before in
+    let start = loop .before in
+    let r = start .args .r in
+    let l = loop .loop in
     let h : l .f < 15 = omega arith in
     sym (each-stop 15 (keeps r) (l .f) h
-    (neither-is r _ (l .f) (l .inv .1) h _ (c .before .before .before .field-of .ensures) _ (c .before .late-bytes .ensures)
-    (omega (arith, c .before .before .before .before .if1 .taken)) (c .if2 .taken)))
+    (neither-is r _ (l .f) (l .inv .1) h _ (field-of .field-of .ensures) _ (late-bytes .late-bytes .ensures)
+    (omega (arith, if1 .if1 .taken)) (c .if2 .taken)))
 
 loop-again : tie.Need-loop-again Inv-loop μ-loop
 loop-again c =

@@ -24,30 +24,36 @@ abbrev μ-loop : tie.MeasureT-loop
 
 loop-holds : tie.Need-loop-holds Inv-loop μ-loop
 loop-holds c =
-    let s = c .before in
-    (omega arith, s .pre .0, s .pre .1 .0, (refl, laid-none (s .args .r) (now (s .args .out)) (s .args .t) (s .pre .0) (s .pre .1 .1)))
+    let start = c .before in
+    (omega arith, start .pre .0, start .pre .1 .0, (refl, laid-none _ _ _ (start .pre .0) (start .pre .1 .1)))
 
 sub-put-at : tie.Need-sub-put-at Inv-loop μ-loop
 sub-put-at c =
-    let l = c .before .before .before .before .before .loop in
+    let if1 = c .before .before .before in
+    let loop = if1 .before .before in
+    let l = loop .loop in
     let h : l .f < 15 = omega arith in
     omega (arith, start-end (l .f) h)
 
 put-at-requires : tie.Need-put-at-requires Inv-loop μ-loop
 put-at-requires c κs =
-    let l = c .before .before .before .before .before .loop in
+    let field-of = c .before .before in
+    let loop = field-of .before .before .before in
+    let start = loop .before .before in
+    let l = loop .loop in
     let h : l .f < 15 = omega arith in
-    let n : length (c .before .before .field-of .result) ≡ 8 = search needs in
-    let g : endOf (l .f) ≤ c .before .before .before .before .before .before .before .args .t = omega arith in
+    let n : length (field-of .field-of .result) ≡ 8 = search needs in
+    let g : endOf (l .f) ≤ start .args .t = omega arith in
     (omega (arith, start-end (l .f) h), omega (arith, width-most (l .f) h))
 
 loop-again : tie.Need-loop-again Inv-loop μ-loop
 loop-again c =
-    let s = c .before .before .before .before in
-    let r = s .args .r in
-    let o = now (s .args .out) in
-    let t = s .args .t in
-    let l = c .before .before .loop in
+    let loop = c .before .before in
+    let start = loop .before .before in
+    let r = start .args .r in
+    let o = now (start .args .out) in
+    let t = start .args .t in
+    let l = loop .loop in
     let h : l .f < 15 = omega arith in
     let i = l .inv in
     let k = laid-length r o t (l .f) (l .out) (i .3 .1) (i .3 .0) (i .2) in
@@ -55,11 +61,13 @@ loop-again c =
       omega arith,
       i .1,
       i .2,
-      ⊎-elim
-          (λ w. let g : endOf (l .f) ≤ t = omega (arith, w .0 .taken) in
+      ⊎-elim (λ w. let g : endOf (l .f) ≤ t = omega (arith, w .0 .taken) in
           let n : length (w .1 .result) ≡ 8 = search needs in (
-            ap length (w .7 ∙ w .4 .ensures) ∙ length-paste (l .out) (startOf (l .f)) (w .1 .result) (widthOf (l .f)) (omega arith) (omega (arith, width-most (l .f) h)) ∙ i .3 .0,
-            w .7 ∙ w .4 .ensures ∙ laid-more r o t (l .f) (w .1 .result) (l .out) (read-at r t (l .f) (i .1) h g) (w .1 .ensures) (i .3 .1) (omega arith),
+            ap length (w .7 ∙ w .4 .ensures)
+                ∙ length-paste (l .out) (startOf (l .f)) _ (widthOf (l .f)) (omega arith) (omega (arith, width-most (l .f) h))
+                ∙ i .3 .0,
+            w .7 ∙ w .4 .ensures
+                ∙ laid-more r o t (l .f) _ (l .out) (read-at r t (l .f) (i .1) h g) (w .1 .ensures) (i .3 .1) (omega arith),
           ))
           (λ w. (ap length (w .1) ∙ i .3 .0, w .1 ∙ i .3 .1 ∙ laid-past r o t (l .f) (unread-at r t (l .f) (i .1) h (w .0 .left))))
           (c .if1 .came),
@@ -70,10 +78,11 @@ same-length c = c .before .loop .inv .3 .0
 
 returns : tie.Need-returns Inv-loop μ-loop
 returns c =
-    let s = c .before .before .before in
-    let l = c .before .loop in
+    let loop = c .before in
+    let start = loop .before .before in
+    let l = loop .loop in
     let e : l .f ≡ 15 = omega arith in
-    l .inv .3 .1 ∙ ap (λ (n : ℕ). laid (s .args .r) n ++ drop (s .args .t) (now (s .args .out))) e
+    l .inv .3 .1 ∙ ap (λ (n : ℕ). laid (start .args .r) n ++ drop (start .args .t) (now (start .args .out))) e
 
 pub lay-spec : {M : Type 1} → statement M
 lay-spec =

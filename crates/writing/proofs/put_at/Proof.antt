@@ -18,7 +18,7 @@ abbrev μ-loop : tie.MeasureT-loop
 μ-loop out₀ at x n i₀ out i = n - i
 
 loop-holds : tie.Need-loop-holds Inv-loop μ-loop
-loop-holds c = (omega arith, (c .pre, paste-zero (now (c .args .out)) (c .args .at) (now (c .args .x))))
+loop-holds c = (omega arith, (c .pre, paste-zero _ (c .args .at) (now (c .args .x))))
 
 slice-write-out : tie.Need-slice-write-out Inv-loop μ-loop
 slice-write-out c =

@@ -8,8 +8,12 @@ use Rattle.reading.proofs.fields.word.Tie as tie
 
 returns : tie.Need-returns
 returns c =
-    let a = c .before .before .before .before .before .before .before .before .before .args in
-    let p = c .before .before .before .before .before .before .before .before .before .pre in
+    let wide3 = c .before .before in
+    let wide2 = wide3 .before .before in
+    let wide = wide2 .before .before in
+    let start = wide .before .before .before in
+    let a = start .args in
+    let p = start .pre in
     rw (← row (now (a .bytes)) (a .at) 3 (omega arith)) (search needs)
 
 pub word-spec : {M : Type 1} → statement M

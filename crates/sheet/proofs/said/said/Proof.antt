@@ -11,4 +11,11 @@ said-spec =
     (tie.spec
     (λ c κs. tt) (λ c κs. tt) (λ c κs. tt) (λ c κs. tt) (λ c κs. tt) (λ c. search needs) (λ c. search needs) (λ c. search needs)
     (λ c. search needs) (λ c. search needs) (λ c. search needs) (λ c. search needs) (λ c. search needs)
-    (λ c. whole (saidOf (c .before .before .before .before .before .args .r)) (c .before .before .before .before .said-from-0 .ensures .0) (c .before .before .before .said-from-4 .ensures .0) (c .before .before .said-from-8 .ensures .0) (c .before .said-from-13 .ensures .0) (c .said-from-18 .ensures .0)))
+    (λ c.
+    let said-from-13 = c .before in
+    let said-from-8 = said-from-13 .before in
+    let said-from-4 = said-from-8 .before in
+    let said-from-0 = said-from-4 .before in
+    let start = said-from-0 .before in
+    whole (saidOf (start .args .r)) (said-from-0 .said-from-0 .ensures .0) (said-from-4 .said-from-4 .ensures .0)
+    (said-from-8 .said-from-8 .ensures .0) (said-from-13 .said-from-13 .ensures .0) (c .said-from-18 .ensures .0)))

@@ -9,7 +9,24 @@ use Rattle.sheet.proofs.said.said_from_18.Tie as tie
 
 returns : tie.Need-returns
 unfolding saidOf placesOf
-returns c = (bits6 (rw (c .before .before .before .before .before .before .before .before .before .from .ensures, c .before .before .before .before .before .before .before .before .before .before .get-keyboard-navigation-input-flags .ensures) at (c .before .before .before .before .before .before .before .before .kind-bit .ensures .0)) (rw (c .before .before .before .before .before .before .before .from2 .ensures, c .before .before .before .before .before .before .before .before .before .before .get-keyboard-navigation-input-flags .ensures) at (c .before .before .before .before .before .before .kind-bit2 .ensures .0)) (rw (c .before .before .before .before .before .from3 .ensures, c .before .before .before .before .before .before .before .before .before .before .get-keyboard-navigation-input-flags .ensures) at (c .before .before .before .before .kind-bit3 .ensures .0)) (rw (c .before .before .before .from4 .ensures, c .before .before .before .before .before .before .before .before .before .before .get-keyboard-navigation-input-flags .ensures) at (c .before .before .kind-bit4 .ensures .0)) (c .before .some-bit .ensures .0) (c .some-bit2 .ensures .0), omega arith)
+returns c =
+    let some-bit = c .before in
+    let kind-bit4 = some-bit .before in
+    let from4 = kind-bit4 .before in
+    let kind-bit3 = from4 .before in
+    let from3 = kind-bit3 .before in
+    let kind-bit2 = from3 .before in
+    let from2 = kind-bit2 .before in
+    let kind-bit = from2 .before in
+    let from = kind-bit .before in
+    let input = from .before in (
+      bits6 (rw (from .from .ensures, input .get-keyboard-navigation-input-flags .ensures) at (kind-bit .kind-bit .ensures .0))
+          (rw (from2 .from2 .ensures, input .get-keyboard-navigation-input-flags .ensures) at (kind-bit2 .kind-bit2 .ensures .0))
+          (rw (from3 .from3 .ensures, input .get-keyboard-navigation-input-flags .ensures) at (kind-bit3 .kind-bit3 .ensures .0))
+          (rw (from4 .from4 .ensures, input .get-keyboard-navigation-input-flags .ensures) at (kind-bit4 .kind-bit4 .ensures .0))
+          (some-bit .some-bit .ensures .0) (c .some-bit2 .ensures .0),
+      omega arith,
+    )
 
 pub said-from-18-spec : {M : Type 1} → statement M
 said-from-18-spec =

@@ -24,22 +24,27 @@ first-spec =
     tie.close
     (tie.spec
     (λ c. search needs)
-    (λ c. by-row (c .before .before .before .args .s .now) _ 0x00 0x80 (some []) tt (search needs) (search needs) refl)
-    (λ c. by-row (c .before .before .before .before .args .s .now) _ 0x80 0x42 none tt (search needs) (search needs) refl)
+    (λ c. by-row _ _ 0x00 0x80 (some []) tt (search needs) (search needs) refl)
+    (λ c. by-row _ _ 0x80 0x42 none tt (search needs) (search needs) refl)
     (λ c κs. tt)
-    (λ c. by-row (c .before .before .before .before .before .before .args .s .now) _ 0xC2 0x1E (some ((0x80, 0xBF) ∷ [])) tt (search needs) (search needs) (c .front-of-two .ensures))
+    (λ c. by-row _ _ 0xC2 0x1E (some ((0x80, 0xBF) ∷ [])) tt (search needs) (search needs) (c .front-of-two .ensures))
     (λ c κs. tt)
-    (λ c. by-row (c .before .before .before .before .before .before .before .args .s .now) _ 0xE0 1 (some ((0xA0, 0xBF) ∷ (0x80, 0xBF) ∷ [])) tt (search needs) (search needs) (c .front-of-three .ensures))
+    (λ c. by-row _ _ 0xE0 1 (some ((0xA0, 0xBF) ∷ (0x80, 0xBF) ∷ [])) tt (search needs) (search needs) (c .front-of-three .ensures))
     (λ c κs. tt)
-    (λ c. by-row (c .before .before .before .before .before .before .before .before .args .s .now) _ 0xE1 12 (some ((0x80, 0xBF) ∷ (0x80, 0xBF) ∷ [])) tt (search needs) (search needs) (c .front-of-three2 .ensures))
+    (λ c. by-row _ _ 0xE1 12 (some ((0x80, 0xBF) ∷ (0x80, 0xBF) ∷ [])) tt (search needs) (search needs) (c .front-of-three2 .ensures))
     (λ c κs. tt)
-    (λ c. by-row (c .before .before .before .before .before .before .before .before .before .args .s .now) _ 0xED 1 (some ((0x80, 0x9F) ∷ (0x80, 0xBF) ∷ [])) tt (search needs) (search needs) (c .front-of-three3 .ensures))
+    (λ c. by-row _ _ 0xED 1 (some ((0x80, 0x9F) ∷ (0x80, 0xBF) ∷ [])) tt (search needs) (search needs) (c .front-of-three3 .ensures))
     (λ c κs. tt)
-    (λ c. by-row (c .before .before .before .before .before .before .before .before .before .before .args .s .now) _ 0xEE 2 (some ((0x80, 0xBF) ∷ (0x80, 0xBF) ∷ [])) tt (search needs) (search needs) (c .front-of-three4 .ensures))
+    (λ c. by-row _ _ 0xEE 2 (some ((0x80, 0xBF) ∷ (0x80, 0xBF) ∷ [])) tt (search needs) (search needs) (c .front-of-three4 .ensures))
     (λ c κs. tt)
-    (λ c. by-row (c .before .before .before .before .before .before .before .before .before .before .before .args .s .now) _ 0xF0 1 (some ((0x90, 0xBF) ∷ (0x80, 0xBF) ∷ (0x80, 0xBF) ∷ [])) tt (search needs) (search needs) (c .front-of-four .ensures))
+    (λ c. by-row _ _ 0xF0 1 (some ((0x90, 0xBF) ∷ (0x80, 0xBF) ∷ (0x80, 0xBF) ∷ [])) tt (search needs) (search needs) (c .front-of-four .ensures))
     (λ c κs. tt)
-    (λ c. by-row (c .before .before .before .before .before .before .before .before .before .before .before .before .args .s .now) _ 0xF1 3 (some ((0x80, 0xBF) ∷ (0x80, 0xBF) ∷ (0x80, 0xBF) ∷ [])) tt (search needs) (search needs) (c .front-of-four2 .ensures))
+    (λ c. by-row _ _ 0xF1 3 (some ((0x80, 0xBF) ∷ (0x80, 0xBF) ∷ (0x80, 0xBF) ∷ [])) tt (search needs) (search needs) (c .front-of-four2 .ensures))
     (λ c κs. tt)
-    (λ c. by-row (c .before .before .before .before .before .before .before .before .before .before .before .before .before .args .s .now) _ 0xF4 1 (some ((0x80, 0x8F) ∷ (0x80, 0xBF) ∷ (0x80, 0xBF) ∷ [])) tt (search needs) (search needs) (c .front-of-four3 .ensures))
-    (λ c. by-row (c .before .before .before .before .before .before .before .before .before .before .before .before .args .s .now) _ 0xF5 11 none tt (search needs) (omega (arith, c .before .before .before .before .before .before .before .before .before .before .shared-slice-known2 .given 0)) refl))
+    (λ c. by-row _ _ 0xF4 1 (some ((0x80, 0x8F) ∷ (0x80, 0xBF) ∷ (0x80, 0xBF) ∷ [])) tt (search needs) (search needs) (c .front-of-four3 .ensures))
+    (λ c.
+    let if7 = c .before .before .before in
+    let if4 = if7 .before .before .before in
+    let if1 = if4 .before .before .before in
+    let shared-slice-known = if1 .before in
+    by-row _ _ 0xF5 11 none tt (search needs) (omega (arith, shared-slice-known .shared-slice-known2 .given 0)) refl))

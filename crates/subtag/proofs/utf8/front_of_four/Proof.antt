@@ -9,13 +9,37 @@ returns : tie.Need-returns
 returns c = rw (told (c .before .ok-at .ensures) (not-true _ (c .if1 .taken)))
 
 returns-2 : tie.Need-returns-2
-returns-2 c = rw (told (c .before .before .before .ok-at .ensures) (not-false _ (c .before .before .if1 .left)), told (c .before .ok-at2 .ensures) (not-true _ (c .if2 .taken)))
+returns-2 c =
+    let ok-at2 = c .before in
+    let if1 = ok-at2 .before in
+    let ok-at = if1 .before in
+    rw (told (ok-at .ok-at .ensures) (not-false _ (if1 .if1 .left)), told (ok-at2 .ok-at2 .ensures) (not-true _ (c .if2 .taken)))
 
 returns-3 : tie.Need-returns-3
-returns-3 c = rw (told (c .before .before .before .before .before .ok-at .ensures) (not-false _ (c .before .before .before .before .if1 .left)), told (c .before .before .before .ok-at2 .ensures) (not-false _ (c .before .before .if2 .left)), told (c .before .ok-at3 .ensures) (c .if3 .taken))
+returns-3 c =
+    let ok-at3 = c .before in
+    let if2 = ok-at3 .before in
+    let ok-at2 = if2 .before in
+    let if1 = ok-at2 .before in
+    let ok-at = if1 .before in
+    rw (
+      told (ok-at .ok-at .ensures) (not-false _ (if1 .if1 .left)),
+      told (ok-at2 .ok-at2 .ensures) (not-false _ (if2 .if2 .left)),
+      told (ok-at3 .ok-at3 .ensures) (c .if3 .taken),
+    )
 
 returns-4 : tie.Need-returns-4
-returns-4 c = rw (told (c .before .before .before .before .before .ok-at .ensures) (not-false _ (c .before .before .before .before .if1 .left)), told (c .before .before .before .ok-at2 .ensures) (not-false _ (c .before .before .if2 .left)), told (c .before .ok-at3 .ensures) (c .if3 .left))
+returns-4 c =
+    let ok-at3 = c .before in
+    let if2 = ok-at3 .before in
+    let ok-at2 = if2 .before in
+    let if1 = ok-at2 .before in
+    let ok-at = if1 .before in
+    rw (
+      told (ok-at .ok-at .ensures) (not-false _ (if1 .if1 .left)),
+      told (ok-at2 .ok-at2 .ensures) (not-false _ (if2 .if2 .left)),
+      told (ok-at3 .ok-at3 .ensures) (c .if3 .left),
+    )
 
 pub front-of-four-spec : {M : Type 1} → statement M
 front-of-four-spec =

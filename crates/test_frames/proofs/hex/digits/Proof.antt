@@ -8,8 +8,12 @@ use Rattle.test_frames.proofs.hex.digits.Tie as tie
 returns : tie.Need-returns
 unfolding hexOf
 returns c =
-    rw (← c .before .before .before .before .before .before .before .before .digit .ensures, ← c .before .before .before .digit2 .ensures)
-    (put-put (c .before .before .before .before .before .before .before .put-byte .ensures) (c .before .before .put-byte2 .ensures))
+    let put-byte2 = c .before .before in
+    let digit2 = put-byte2 .before in
+    let line = digit2 .before .before .before in
+    let put-byte = line .before in
+    let digit = put-byte .before in
+    rw (← digit .digit .ensures, ← digit2 .digit2 .ensures) (put-put (put-byte .put-byte .ensures) (put-byte2 .put-byte2 .ensures))
 
 pub digits-spec : {M : Type 1} → statement M
 digits-spec =

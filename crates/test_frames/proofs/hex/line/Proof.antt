@@ -21,13 +21,18 @@ abbrev μ-loop : tie.MeasureT-loop
 
 loop-again : tie.Need-loop-again Inv-loop μ-loop
 loop-again c =
-    let l = c .before .before .before .before .before .before .loop in
-    (omega arith, omega arith, rw add-one (hex-turn _ (l .i) (omega arith) (l .inv .2) (c .before .before .digits .ensures)))
+    let digits = c .before .before in
+    let loop-test = digits .before .before .before in
+    let loop = loop-test .before in
+    let l = loop .loop in
+    (omega arith, omega arith, rw add-one (hex-turn _ (l .i) (omega arith) (l .inv .2) (digits .digits .ensures)))
 
 returns : tie.Need-returns Inv-loop μ-loop
 returns c =
-    let l = c .before .before .before .before .before .loop in
-    put-put (hex-all _ (l .i) (omega arith) (l .inv .2)) (c .before .before .put-byte .ensures)
+    let put-byte = c .before .before in
+    let loop = put-byte .before .before .before in
+    let l = loop .loop in
+    put-put (hex-all _ (l .i) (omega arith) (l .inv .2)) (put-byte .put-byte .ensures)
 
 pub line-spec : {M : Type 1} → statement M
 line-spec =

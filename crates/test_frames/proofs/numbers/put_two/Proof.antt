@@ -9,4 +9,8 @@ put-two-spec =
     tie.close
     (tie.spec
     (λ c. search needs) (λ c κs. tt) (λ c. search needs) (λ c κs. tt) (λ c. search needs)
-    (λ c. put-put (c .before .before .before .before .before .before .put-byte .ensures) (c .before .before .put-byte2 .ensures)))
+    (λ c.
+    let put-byte2 = c .before .before in
+    let out = put-byte2 .before .before .before in
+    let put-byte = out .before in
+    put-put (put-byte .put-byte .ensures) (put-byte2 .put-byte2 .ensures)))
