@@ -21,5 +21,6 @@ numbered = refl
 
 -- what the definitions give is what 01 asks, in every row
 pub judged : map (λ (e : Example). e .given) twelve ≡ map (λ (e : Example). e .asked) twelve
-unfolding reads fieldBy recordBy plain aged ifWhole ifAge isAge heldBack written textOf placesOf sayAll say dashAfter localeWords newWords legacyWords unpacked subtagOf dropNuls keep replaced replacedBy frontOf okAt decimal digits saidOf sheetOf
+unfolding reads fieldBy recordBy plain aged ifWhole ifAge isAge heldBack written textOf placesOf sayAll say dashAfter localeWords
+    newWords legacyWords unpacked subtagOf dropNuls keep replaced replacedBy frontOf okAt decimal digits saidOf sheetOf
 judged = refl

@@ -54,5 +54,8 @@ pub examples :
     × (lineOf 64 given (Cursor.Record 1 16) (replicate 24 7) ≡ lineRefused Refusal.ShortBuffer (Cursor.Record 1 16) (replicate 24 7))
     × (lineOf 64 given (Cursor.Record 1 16) (replicate 26 7)
     ≡ record { does = wrote (ascii "1 16 0 BBBAAAAAAAAAAA %-" ++ newline) (replicate 26 7); goes = Cursor.Record 2 32 })
-unfolding listingOf recordLines offsetsIn stopIn frontAt lineOf lineAt after written ageLine stopLine laidOut shownWords escapedAll escaped visible lettersIn markBetween heldBack isAge ifAge ifWhole aged recordBy fieldBy reads textOf placesOf sayAll say dashAfter localeWords newWords legacyWords unpacked subtagOf dropNuls keep replaced replacedBy frontOf okAt decimal digits
+unfolding listingOf recordLines offsetsIn stopIn frontAt lineOf lineAt after written ageLine stopLine laidOut shownWords
+    escapedAll escaped visible lettersIn markBetween heldBack isAge ifAge ifWhole aged recordBy fieldBy reads textOf placesOf
+    sayAll say dashAfter localeWords newWords legacyWords unpacked subtagOf dropNuls keep replaced replacedBy frontOf okAt decimal
+    digits
 examples = (refl, refl, refl, refl, refl, refl)

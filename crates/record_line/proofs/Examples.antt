@@ -32,5 +32,7 @@ pub examples :
     × (recordLineOf 64 0 0 (17 ∷ replicate 15 0) (7 ∷ []) ≡ refused Refusal.FewerThanSize (7 ∷ []))
     × (recordLineOf 64 1 16 (replicate 16 0) (replicate 24 7) ≡ refused Refusal.ShortBuffer (replicate 24 7))
     × (recordLineOf 64 1 16 (replicate 16 0) (replicate 26 7) ≡ wrote (ascii "1 16 0 BBBAAAAAAAAAAA %-" ++ newline) (replicate 26 7))
-unfolding laidOut shownWords escapedAll escaped visible written lettersIn markBetween heldBack isAge ifAge ifWhole aged recordBy fieldBy reads textOf placesOf sayAll say dashAfter localeWords newWords legacyWords unpacked subtagOf dropNuls keep replaced replacedBy frontOf okAt decimal digits
+unfolding laidOut shownWords escapedAll escaped visible written lettersIn markBetween heldBack isAge ifAge ifWhole aged recordBy
+    fieldBy reads textOf placesOf sayAll say dashAfter localeWords newWords legacyWords unpacked subtagOf dropNuls keep replaced
+    replacedBy frontOf okAt decimal digits
 examples = (refl, refl, refl, refl, refl, refl, refl)

@@ -48,7 +48,8 @@ stepped-same p q e = cc
 pub one-step : (a : ℕ) (bytes : List ℕ) (p : ℕ) (r s : Stepped) → stepOutcome r ≡ stepOf a bytes p → stepOutcome s ≡ stepOf a bytes p → r ≡ s
 one-step a bytes p r s e f =
     let h = e ∙ sym f in
-    stepped-same (step-one (r .answer) (s .answer) (ap (λ (o : StepOutcome ResTableConfig). o .tells) h)) (ap (λ (o : StepOutcome ResTableConfig). o .next) h) (ap (λ (o : StepOutcome ResTableConfig). o .gives) h)
+    stepped-same (step-one (r .answer) (s .answer) (ap (λ (o : StepOutcome ResTableConfig). o .tells) h))
+    (ap (λ (o : StepOutcome ResTableConfig). o .next) h) (ap (λ (o : StepOutcome ResTableConfig). o .gives) h)
 
 -- of `told`, of `front_at` and of `walk`: the answer is its definition's value at the input
 pub one-told : (step : Step) (r t : Told) → r ≡ stepTells step → t ≡ stepTells step → r ≡ t

@@ -11,9 +11,12 @@ use Rattle.locale.proofs.write_locale.Tie as tie
 
 returns : tie.Need-returns
 returns c =
-    let s = c .before .before .before .before .before .before .before .before .before in
-    let l = text-long (s .args .r) _ (s .good .1 .0) in
-    c .before .before .write .ensures ∙ copied _ (omega (arith, l)) (c .before .before .before .before .before .before .put-said .ensures)
+    let write = c .before .before in
+    let own = write .before .before .before in
+    let put-said = own .before in
+    let start = put-said .before .before .before in
+    let l = text-long (start .args .r) _ (start .good .1 .0) in
+    write .write .ensures ∙ copied _ (omega (arith, l)) (put-said .put-said .ensures)
 
 pub write-locale-spec : {M : Type 1} → statement M
 write-locale-spec =

@@ -15,29 +15,41 @@ returns c = sym (age-unknown _ _ _ (sym (not-true _ (c .if1 .taken)) ∙ c .befo
 
 returns-2 : tie.Need-returns-2
 returns-2 c =
-    let s = now (c .before .before .before .before .before .before .before .before .before .before .args .bytes) in
-    let n = c .before .before .before .before .n .given in
-    held-said _ s (n .0 .0) true
-    (sym (not-false _ (c .before .before .before .before .before .before .before .if1 .left)) ∙ c .before .before .before .before .before .before .before .before .is-age .ensures)
-    (sym (ap takenTells (n .1)) ∙ c .before .before .before .before .before .before .amount .ensures)
-    (sym (c .if2 .taken) ∙ c .before .late-bytes .ensures)
+    let late-bytes = c .before in
+    let n-at = late-bytes .before .before .before in
+    let amount = n-at .before .before in
+    let if1 = amount .before in
+    let is-age = if1 .before in
+    let start = is-age .before .before in
+    let s = now (start .args .bytes) in
+    let n = n-at .n .given in
+    held-said _ s (n .0 .0) true (sym (not-false _ (if1 .if1 .left)) ∙ is-age .is-age .ensures)
+    (sym (ap takenTells (n .1)) ∙ amount .amount .ensures) (sym (c .if2 .taken) ∙ late-bytes .late-bytes .ensures)
 
 returns-3 : tie.Need-returns-3
 returns-3 c =
-    let s = now (c .before .before .before .before .before .before .before .before .before .before .args .bytes) in
-    let n = c .before .before .before .before .n .given in
-    held-said _ s (n .0 .0) false
-    (sym (not-false _ (c .before .before .before .before .before .before .before .if1 .left)) ∙ c .before .before .before .before .before .before .before .before .is-age .ensures)
-    (sym (ap takenTells (n .1)) ∙ c .before .before .before .before .before .before .amount .ensures)
-    (sym (c .if2 .left) ∙ c .before .late-bytes .ensures)
+    let late-bytes = c .before in
+    let n-at = late-bytes .before .before .before in
+    let amount = n-at .before .before in
+    let if1 = amount .before in
+    let is-age = if1 .before in
+    let start = is-age .before .before in
+    let s = now (start .args .bytes) in
+    let n = n-at .n .given in
+    held-said _ s (n .0 .0) false (sym (not-false _ (if1 .if1 .left)) ∙ is-age .is-age .ensures)
+    (sym (ap takenTells (n .1)) ∙ amount .amount .ensures) (sym (c .if2 .left) ∙ late-bytes .late-bytes .ensures)
 
 returns-4 : tie.Need-returns-4
 returns-4 c =
-    let s = now (c .before .before .before .before .before .before .before .args .bytes) in
-    let w = c .before .why .given in
-    sym (refuses _ s _ _
-    (sym (not-false _ (c .before .before .before .before .if1 .left)) ∙ c .before .before .before .before .before .is-age .ensures)
-    (w .0 .0) (sym (ap takenTells (w .1)) ∙ c .before .before .before .amount .ensures))
+    let why = c .before in
+    let amount = why .before .before in
+    let if1 = amount .before in
+    let is-age = if1 .before in
+    let start = is-age .before .before in
+    let s = now (start .args .bytes) in
+    let w = why .why .given in
+    sym (refuses _ s _ _ (sym (not-false _ (if1 .if1 .left)) ∙ is-age .is-age .ensures) (w .0 .0)
+    (sym (ap takenTells (w .1)) ∙ amount .amount .ensures))
 
 pub held-back-spec : {M : Type 1} → statement M
 held-back-spec =

@@ -18,20 +18,26 @@ abbrev μ-loop : tie.MeasureT-loop
 
 returns : tie.Need-returns Inv-loop μ-loop
 returns c =
-    let a = c .before .before .before .before .before .before .args in
-    let l = c .before .before .before .loop in
+    let loop = c .before .before .before in
+    let start = loop .before .before .before in
+    let a = start .args in
+    let l = loop .loop in
     ap not (sym (l .inv ∙ found-here (now (a .bytes)) (a .n) (l .i) (omega arith) (c .if1 .taken)))
 
 loop-again : tie.Need-loop-again Inv-loop μ-loop
 loop-again c =
-    let a = c .before .before .before .before .before .before .args in
-    let l = c .before .before .before .loop in
+    let loop = c .before .before .before in
+    let start = loop .before .before .before in
+    let a = start .args in
+    let l = loop .loop in
     l .inv ∙ zero-here (now (a .bytes)) (a .n) (l .i) (omega arith) (c .if1 .left)
 
 returns-2 : tie.Need-returns-2 Inv-loop μ-loop
 returns-2 c =
-    let a = c .before .before .before .before .args in
-    let l = c .before .loop in
+    let loop = c .before in
+    let start = loop .before .before .before in
+    let a = start .args in
+    let l = loop .loop in
     ap not (sym (l .inv ∙ none-left (now (a .bytes)) (a .n) (l .i) (omega arith)))
 
 pub late-bytes-spec : {M : Type 1} → statement M

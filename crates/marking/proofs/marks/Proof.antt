@@ -15,11 +15,13 @@ returns c = sym (age-unknown _ _ _ (sym (not-true _ (c .if1 .taken)) ∙ c .befo
 returns-2 : tie.Need-returns-2
 returns-2 c =
     let write = c .before .before in
-    let took = write .before .before .before .before in
+    let write-marks-arg = write .before in
+    let took = write-marks-arg .before .before .before in
     let amount = took .before .before in
     let age = amount .before in
     let is-age = age .before in
-    let s = now (is-age .before .before .before .args .bytes) in
+    let start = is-age .before .before .before in
+    let s = now (start .args .bytes) in
     let n = took .n .given in
     let told = sym (ap takenTells (n .1)) ∙ amount .amount .ensures in
     rw (gives _ s _ _ (sym (not-false _ (age .if1 .left)) ∙ is-age .is-age .ensures) (n .0 .0) told, ← took-says s (n .0 .0) told .0)
@@ -31,9 +33,11 @@ returns-3 c =
     let amount = refused .before .before in
     let age = amount .before in
     let is-age = age .before in
-    let s = now (is-age .before .before .before .args .bytes) in
+    let start = is-age .before .before .before in
+    let s = now (start .args .bytes) in
     let w = refused .why .given in
-    sym (refuses _ s _ _ (sym (not-false _ (age .if1 .left)) ∙ is-age .is-age .ensures) (w .0 .0) (sym (ap takenTells (w .1)) ∙ amount .amount .ensures))
+    sym (refuses _ s _ _ (sym (not-false _ (age .if1 .left)) ∙ is-age .is-age .ensures) (w .0 .0)
+    (sym (ap takenTells (w .1)) ∙ amount .amount .ensures))
 
 pub marks-spec : {M : Type 1} → statement M
 marks-spec =

@@ -45,7 +45,8 @@ put-marks-spec =
     (tie.spec
     Inv-loop μ-loop
     (λ c. (search needs, search needs, put-nil))
-    (λ c. omega arith) (λ c. search needs) (λ c. omega arith) (λ c. omega arith) (λ c. search needs) (λ c. omega arith) (λ c κs. tt) (λ c κs. tt) (λ c κs. search needs) (λ c. omega arith) (λ c. omega arith)
+    (λ c. omega arith) (λ c. search needs) (λ c. omega arith) (λ c. omega arith) (λ c. search needs) (λ c. omega arith)
+    (λ c κs. tt) (λ c κs. tt) (λ c κs. search needs) (λ c. omega arith) (λ c. omega arith)
     loop-again
     (λ c. omega arith)
     returns)

@@ -11,42 +11,42 @@ later-agree-spec =
     (λ c. differ-bytes (c .before .before .script .ensures) (c .before .script2 .ensures) _ _ (c .if1 .taken))
     (λ c κs. tt) (λ c κs. tt)
     (λ c.
-    let p1 = c .before .before .before in
-    pass-bytes (p1 .before .before .script .ensures) (p1 .before .script2 .ensures) _ _ (p1 .if1 .left)
+    let if1 = c .before .before .before in
+    pass-bytes (if1 .before .before .script .ensures) (if1 .before .script2 .ensures) _ _ (if1 .if1 .left)
     (differ-bytes (c .before .before .variant .ensures) (c .before .variant2 .ensures) _ _ (c .if2 .taken)))
     (λ c.
-    let p2 = c .before .before .before in
-    let p1 = p2 .before .before .before in
-    pass-bytes (p1 .before .before .script .ensures) (p1 .before .script2 .ensures) _ _ (p1 .if1 .left)
-    (pass-bytes (p2 .before .before .variant .ensures) (p2 .before .variant2 .ensures) _ _ (p2 .if2 .left)
+    let if2 = c .before .before .before in
+    let if1 = if2 .before .before .before in
+    pass-bytes (if1 .before .before .script .ensures) (if1 .before .script2 .ensures) _ _ (if1 .if1 .left)
+    (pass-bytes (if2 .before .before .variant .ensures) (if2 .before .variant2 .ensures) _ _ (if2 .if2 .left)
     (differ _ (c .if3 .taken))))
     (λ c κs. tt) (λ c κs. tt)
     (λ c.
-    let p3 = c .before .before .before in
-    let p2 = p3 .before .before .before in
-    let p1 = p2 .before .before .before in
-    pass-bytes (p1 .before .before .script .ensures) (p1 .before .script2 .ensures) _ _ (p1 .if1 .left)
-    (pass-bytes (p2 .before .before .variant .ensures) (p2 .before .variant2 .ensures) _ _ (p2 .if2 .left) (pass (p3 .if3 .left)
+    let if3 = c .before .before .before in
+    let if2 = if3 .before .before .before in
+    let if1 = if2 .before .before .before in
+    pass-bytes (if1 .before .before .script .ensures) (if1 .before .script2 .ensures) _ _ (if1 .if1 .left)
+    (pass-bytes (if2 .before .before .variant .ensures) (if2 .before .variant2 .ensures) _ _ (if2 .if2 .left) (pass (if3 .if3 .left)
     (differ-as (c .before .before .computed .ensures) (c .before .computed2 .ensures) _ (c .if4 .taken)))))
     (λ c κs. tt) (λ c κs. tt)
     (λ c.
-    let p4 = c .before .before .before in
-    let p3 = p4 .before .before .before in
-    let p2 = p3 .before .before .before in
-    let p1 = p2 .before .before .before in
-    pass-bytes (p1 .before .before .script .ensures) (p1 .before .script2 .ensures) _ _ (p1 .if1 .left)
-    (pass-bytes (p2 .before .before .variant .ensures) (p2 .before .variant2 .ensures) _ _ (p2 .if2 .left) (pass (p3 .if3 .left)
-    (pass-as (p4 .before .before .computed .ensures) (p4 .before .computed2 .ensures) (p4 .if4 .left)
+    let if4 = c .before .before .before in
+    let if3 = if4 .before .before .before in
+    let if2 = if3 .before .before .before in
+    let if1 = if2 .before .before .before in
+    pass-bytes (if1 .before .before .script .ensures) (if1 .before .script2 .ensures) _ _ (if1 .if1 .left)
+    (pass-bytes (if2 .before .before .variant .ensures) (if2 .before .variant2 .ensures) _ _ (if2 .if2 .left) (pass (if3 .if3 .left)
+    (pass-as (if4 .before .before .computed .ensures) (if4 .before .computed2 .ensures) (if4 .if4 .left)
     (differ-bytes (c .before .before .numbering-system .ensures) (c .before .numbering-system2 .ensures) _ _ (c .if5 .taken))))))
     (λ c κs. tt) (λ c κs. tt)
     (λ c.
-    let p5 = c .before .before in
-    let p4 = p5 .before .before .before in
-    let p3 = p4 .before .before .before in
-    let p2 = p3 .before .before .before in
-    let p1 = p2 .before .before .before in
-    pass-bytes (p1 .before .before .script .ensures) (p1 .before .script2 .ensures) _ _ (p1 .if1 .left)
-    (pass-bytes (p2 .before .before .variant .ensures) (p2 .before .variant2 .ensures) _ _ (p2 .if2 .left) (pass (p3 .if3 .left)
-    (pass-as (p4 .before .before .computed .ensures) (p4 .before .computed2 .ensures) (p4 .if4 .left)
-    (pass-bytes (p5 .before .before .numbering-system .ensures) (p5 .before .numbering-system2 .ensures) _ _ (p5 .if5 .left)
+    let if5 = c .before .before in
+    let if4 = if5 .before .before .before in
+    let if3 = if4 .before .before .before in
+    let if2 = if3 .before .before .before in
+    let if1 = if2 .before .before .before in
+    pass-bytes (if1 .before .before .script .ensures) (if1 .before .script2 .ensures) _ _ (if1 .if1 .left)
+    (pass-bytes (if2 .before .before .variant .ensures) (if2 .before .variant2 .ensures) _ _ (if2 .if2 .left) (pass (if3 .if3 .left)
+    (pass-as (if4 .before .before .computed .ensures) (if4 .before .computed2 .ensures) (if4 .if4 .left)
+    (pass-bytes (if5 .before .before .numbering-system .ensures) (if5 .before .numbering-system2 .ensures) _ _ (if5 .if5 .left)
     (last-agree (c .before .padding .ensures) (c .padding2 .ensures))))))))

@@ -15,9 +15,11 @@ returns-2 c =
     let amount = took .before .before in
     let from = amount .before .before in
     let inside = from .before in
-    let a = inside .before .before .args in
+    let start = inside .before .before in
+    let a = start .args in
     let n = took .n .given in
-    let told = sym (ap takenTells (n .1)) ∙ amount .amount .ensures ∙ ap amountOf (rest-from (now (a .bytes)) (a .offset) _ (from .lesser .ensures)) in
+    let told = sym (ap takenTells (n .1)) ∙ amount .amount .ensures
+    ∙ ap amountOf (rest-from (now (a .bytes)) (a .offset) _ (from .lesser .ensures)) in
     sym (front-took (now (a .bytes)) (a .offset) (inside .if1 .left) (n .0 .0) told)
 
 returns-3 : tie.Need-returns-3
@@ -26,9 +28,11 @@ returns-3 c =
     let amount = refused .before .before in
     let from = amount .before .before in
     let inside = from .before in
-    let a = inside .before .before .args in
+    let start = inside .before .before in
+    let a = start .args in
     let w = refused .why .given in
-    let told = sym (ap takenTells (w .1)) ∙ amount .amount .ensures ∙ ap amountOf (rest-from (now (a .bytes)) (a .offset) _ (from .lesser .ensures)) in
+    let told = sym (ap takenTells (w .1)) ∙ amount .amount .ensures
+    ∙ ap amountOf (rest-from (now (a .bytes)) (a .offset) _ (from .lesser .ensures)) in
     sym (front-refused (now (a .bytes)) (a .offset) (inside .if1 .left) (w .0 .0) told)
 
 pub front-at-spec : {M : Type 1} → statement M

@@ -52,16 +52,21 @@ returns-3 c =
 -- the record's bytes are there
 next : tie.Need-add-t14
 next c =
-    let took = c .before .before .before .before .before in
+    let lesser = c .before .before in
+    let took = lesser .before .before .before in
     let front = took .before .before in
-    let a = front .before .before .before .before .args in
+    let is-age = front .before .before in
+    let start = is-age .before .before in
+    let a = start .args in
     omega (arith, front-fits (now (a .bytes)) (a .offset) _ (sym (front .front-at .ensures) ∙ took .n .given .1))
 
 starts : tie.Need-sub-read-to
 starts c =
     let took = c .before .before .before in
     let front = took .before .before in
-    let a = front .before .before .before .before .args in
+    let is-age = front .before .before in
+    let start = is-age .before .before in
+    let a = start .args in
     omega (arith, front-fits (now (a .bytes)) (a .offset) _ (sym (front .front-at .ensures) ∙ took .n .given .1))
 
 pub step-at-spec : {M : Type 1} → statement M

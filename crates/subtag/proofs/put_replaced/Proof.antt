@@ -1,5 +1,5 @@
 -- `put_replaced` puts front after front. The invariant: what is still to be put completes the source. Assumes nothing.
-use Prim.Native.Nat.{_+_, _-_, _≤_}
+use Prim.Native.Nat.{_-_, _≤_}
 use mathlib.Core.Path.{_≡_}
 use native.Mathlib.Omega.{arith}
 use borrow.Author.Needs.{needs}
@@ -15,11 +15,6 @@ Inv-loop out₀ at src o₀ i₀ out o i = (i ≤ length src) × (length out ≡
 abbrev μ-loop : tie.MeasureT-loop
 μ-loop out₀ at src o₀ i₀ out o i = length src - i
 
--- what a front did, at each place behind it
-did : (c : tie.After-struct-known Inv-loop μ-loop)
-    → (1 ≤ c .before .before .before .put-front .result .taken) × (c .before .before .before .before .before .before .before .loop .i + c .before .before .before .put-front .result .taken ≤ length (c .before .before .before .before .before .before .before .before .before .before .args .src .now))
-did c = moves (c .before .before .before .before .before .before .before .before .before .before .args .src .now) (omega arith) (c .before .before .before .put-front .ensures)
-
 pub put-replaced-spec : {M : Type 1} → statement M
 put-replaced-spec =
     tie.close
@@ -27,9 +22,29 @@ put-replaced-spec =
     Inv-loop μ-loop
     (λ c. (search needs, search needs, completes-none _))
     (λ c. omega arith) (λ c. omega arith) (λ c. omega arith)
-    (λ c κs. let s = c .before .before .before .before .before .before .args .src .now in rw (rest-is s (c .before .before .before .loop .i)) (omega (arith, length-drop (c .before .before .before .loop .i) s)))
-    (λ c. omega (arith, did c))
-    (λ c. omega (arith, did c))
-    (λ c. (did c .1, omega arith, completes-more (c .before .before .before .before .before .before .before .before .before .before .args .src .now) (omega arith) (c .before .before .before .before .before .before .before .loop .inv .2) (c .before .before .before .put-front .ensures)))
+    (λ c κs.
+    let loop = c .before .before .before in
+    let start = loop .before .before .before in
+    let s = start .args .src .now in
+    rw (rest-is s (loop .loop .i)) (omega (arith, length-drop (loop .loop .i) s)))
+    (λ c.
+    let put-front = c .before .before .before in
+    let loop-test = put-front .before .before .before in
+    let loop = loop-test .before in
+    let start = loop .before .before .before in
+    omega (arith, moves (start .args .src .now) (omega arith) (put-front .put-front .ensures)))
+    (λ c.
+    let put-front = c .before .before .before in
+    let loop-test = put-front .before .before .before in
+    let loop = loop-test .before in
+    let start = loop .before .before .before in
+    omega (arith, moves (start .args .src .now) (omega arith) (put-front .put-front .ensures)))
+    (λ c.
+    let put-front = c .before .before .before in
+    let loop-test = put-front .before .before .before in
+    let loop = loop-test .before in
+    let start = loop .before .before .before in
+    let moved = moves (start .args .src .now) (omega arith) (put-front .put-front .ensures) in
+    (moved .1, omega arith, completes-more _ (omega arith) (loop .loop .inv .2) (put-front .put-front .ensures)))
     (λ c. omega arith)
     (λ c. completes-all _ {i = c .before .loop .i} (omega arith) (c .before .loop .inv .2)))

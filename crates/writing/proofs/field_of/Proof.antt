@@ -53,15 +53,17 @@ returns-9 c = arm (c .before .before .args .r) 8 (c .before .before .args .f) _ 
 returns-10 : tie.Need-returns-10
 unfolding bytesOf
 returns-10 c =
-    let s = c .before .before .before in
-    arm (s .args .r) 9 (s .args .f) (c .four .result) (omega arith) (ap (take 4) (c .four .ensures) ∙ elements 4 (s .args .r .«locale_script») (search needs))
+    let start = c .before .before .before in
+    arm (start .args .r) 9 (start .args .f) _ (omega arith)
+    (ap (take 4) (c .four .ensures) ∙ elements 4 (start .args .r .«locale_script») (search needs))
 
 returns-11 : tie.Need-returns-11
 unfolding bytesOf
 returns-11 c =
-    let s = c .before .before in
-    let l : length (s .args .r .«locale_variant») ≡ 8 = search needs in
-    arm (s .args .r) 10 (s .args .f) (s .args .r .«locale_variant») (omega arith) (take-all 8 (s .args .r .«locale_variant») (omega arith))
+    let start = c .before .before in
+    let variant = start .args .r .«locale_variant» in
+    let l : length variant ≡ 8 = search needs in
+    arm (start .args .r) 10 (start .args .f) variant (omega arith) (take-all 8 variant (omega arith))
 
 returns-12 : tie.Need-returns-12
 unfolding bytesOf
@@ -70,21 +72,24 @@ returns-12 c = arm (c .before .before .args .r) 11 (c .before .before .args .f) 
 returns-13 : tie.Need-returns-13
 unfolding bytesOf
 returns-13 c =
-    let s = c .before .before .before in
-    arm (s .args .r) 12 (s .args .f) (c .one .result) (omega arith) (ap (take 1) (c .one .ensures))
+    let start = c .before .before .before in
+    arm (start .args .r) 12 (start .args .f) _ (omega arith) (ap (take 1) (c .one .ensures))
 
 returns-14 : tie.Need-returns-14
 unfolding bytesOf
 returns-14 c =
-    let s = c .before .before in
-    let l : length (s .args .r .«locale_numbering_system») ≡ 8 = search needs in
-    arm (s .args .r) 13 (s .args .f) (s .args .r .«locale_numbering_system») (omega arith) (take-all 8 (s .args .r .«locale_numbering_system») (omega arith))
+    let start = c .before .before in
+    let numbering = start .args .r .«locale_numbering_system» in
+    let l : length numbering ≡ 8 = search needs in
+    arm (start .args .r) 13 (start .args .f) numbering (omega arith) (take-all 8 numbering (omega arith))
 
 returns-15 : tie.Need-returns-15
 unfolding bytesOf
 returns-15 c =
-    let s = c .before .before .before in
-    arm (s .args .r) 14 (s .args .f) (c .three .result) (last-one 14 (s .args .f) (c .before .before .match .rest) (s .pre)) (ap (take 3) (c .three .ensures) ∙ elements 3 (s .args .r .«end_padding») (shaped (s .args .r) _ (s .good .0) .padding))
+    let match = c .before .before in
+    let start = match .before in
+    arm (start .args .r) 14 _ _ (last-one 14 _ (match .match .rest) (start .pre))
+    (ap (take 3) (c .three .ensures) ∙ elements 3 (start .args .r .«end_padding») (shaped (start .args .r) _ (start .good .0) .padding))
 
 pub field-of-spec : {M : Type 1} → statement M
 field-of-spec =

@@ -20,7 +20,7 @@ abbrev μ-loop : tie.MeasureT-loop
 μ-loop r t f₀ f = 15 - f
 
 loop-holds : tie.Need-loop-holds Inv-loop μ-loop
-loop-holds c = (omega arith, c .pre, each-none (keeps _))
+loop-holds c = (omega arith, c .pre, each-none (keeps (c .args .r)))
 
 sub-late-bytes : tie.Need-sub-late-bytes Inv-loop μ-loop
 sub-late-bytes c =
