@@ -50,10 +50,13 @@ newWords r =
     ++ behind (begins (r .«locale_variant»)) (ascii "+") (subtagOf (r .«locale_variant»))
     ++ behind (begins (r .«locale_numbering_system»)) (ascii "+u+nu+") (subtagOf (r .«locale_numbering_system»))
 
--- the new format where there is a script, a variant or a numbering system, else the legacy one
+-- the new format is called for where there is a script, a variant or a numbering system
+abbrev pub isNew : ResTableConfig → Bool
+isNew r = scriptProvided r || begins (r .«locale_variant») || begins (r .«locale_numbering_system»)
+
+-- the new format where it is called for, else the legacy one
 unfoldable pub localeWords : ResTableConfig → List ℕ
-localeWords r =
-    cond (scriptProvided r || begins (r .«locale_variant») || begins (r .«locale_numbering_system»)) (newWords r) (legacyWords r)
+localeWords r = cond (isNew r) (newWords r) (legacyWords r)
 
 -- what 000 appends to an empty text
 abbrev pub localeText : ResTableConfig → List ℕ

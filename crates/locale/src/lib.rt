@@ -7,13 +7,12 @@ use language::put_region;
 use record::ResTableConfig;
 use subtag::put_subtag;
 ghost use mathlib.Core.Path.{_≡_};
-ghost use mathlib.Core.Bool.{_||_};
 ghost use Prim.Native.Nat.{_%_, _/_};
 ghost use Rattle.buffer.specs.Ascii.{ascii};
 ghost use Rattle.buffer.specs.Put.{Put};
 ghost use Rattle.buffer.specs.Written.{outcome, written};
 ghost use Rattle.subtag.specs.Subtag.{subtagOf};
-ghost use Rattle.locale.specs.Locale.{language, region, begins, hasRegion, scriptProvided, behind, legacyWords, newWords, localeWords, localeText};
+ghost use Rattle.locale.specs.Locale.{language, region, begins, hasRegion, scriptProvided, isNew, behind, legacyWords, newWords, localeWords, localeText};
 
 // The record's language, put.
 fn put_own_language(out: &mut [u8], at: usize, r: ResTableConfig) -> usize
@@ -111,7 +110,7 @@ fn put_new(out: &mut [u8], at: usize, r: ResTableConfig) -> usize
 
 // Whether the new format is called for.
 fn is_new(r: ResTableConfig) -> bool
-    ensures { λ b. ⌜ b ≡ (scriptProvided r || begins (r .«locale_variant») || begins (r .«locale_numbering_system»)) ⌝ }
+    ensures { λ b. ⌜ b ≡ isNew r ⌝ }
 {
     if script_provided(r) {
         return true;

@@ -3,6 +3,7 @@ use buffer::put;
 use buffer::put_byte;
 use places_all::put_text;
 use record::ResTableConfig;
+use text::LONGEST_TEXT;
 ghost use mathlib.Core.Path.{_≡_};
 ghost use Rattle.buffer.specs.Put.{Put};
 ghost use Rattle.places.specs.Places.{textOf};
@@ -53,7 +54,7 @@ fn put_escaped(text: &[u8], at: usize, out: &mut [u8]) -> usize
 pub fn put_shown(r: ResTableConfig, at: usize, out: &mut [u8]) -> usize
     ensures { λ n. ⌜ Put (now (out .entry)) at (shownWords (textOf r)) (now (out .exit)) n ⌝ }
 {
-    let mut own = [0u8; 344];
+    let mut own = [0u8; LONGEST_TEXT];
     let n = put_text(&mut own, r);
     if n == 0 {
         return put(out, at, b"%-");

@@ -15,16 +15,18 @@ ghost use Rattle.buffer.specs.Written.{outcome, written};
 ghost use Rattle.places.specs.Places.{textOf};
 ghost use Rattle.text.specs.Text.{plainText, agedText};
 
-// Writes the text of a record, as 000's `as_string` has it. No text is longer than 344 bytes, so where out has as many it is
-// put there at once.
+// No text of a record is longer, and one is as long.
+pub const LONGEST_TEXT: usize = 344;
+
+// Writes the text of a record, as 000's `as_string` has it. Where out has room for any text it is put there at once.
 pub fn as_string(out: &mut [u8], r: ResTableConfig) -> Written
     ensures { λ n. ⌜ outcome n (now (out .exit)) ≡ written (textOf r) (now (out .entry)) ⌝ }
 {
-    if 344 <= out.len() {
+    if LONGEST_TEXT <= out.len() {
         let n = put_text(out, r);
         return Written::Wrote(n);
     }
-    let mut own = [0u8; 344];
+    let mut own = [0u8; LONGEST_TEXT];
     let n = put_text(&mut own, r);
     write(out, &own[..n])
 }
