@@ -17,6 +17,7 @@ lie farther apart, one between them gets a name too. Answers whose chains are th
     tools/named.py CRATE          rewrites every one with a chain of more than three, or a line of more than 150 characters
     FIELD=WORD                    among them: calls the place that holds FIELD by WORD
     --again                       also lays out what is named already: places that are cited no more lose their names
+    --anchor                      the code has changed: finds each place again by what is cited there, wherever that stands now
     --no-gen                      takes target/gen-CRATE as it is; else `rt dev CRATE --generated` writes it first
 
 It also breaks lines at 140 characters, and lists the terms that still stand twice in an answer: those want a `let`, or a law. Run `rt fmt` and
@@ -188,6 +189,19 @@ def holding(places, at, chain, where):
     return holds
 
 
+def anchored(toks, chain, moved):
+    """The same tokens, each place moved to where the field stands now that is cited there; moved learns from where to where."""
+    out = []
+    for i, t in enumerate(toks):
+        field = toks[i + 2][1:] if i + 2 < len(toks) and toks[i + 1] == ' ' and str(toks[i + 2]).startswith('.') else None
+        found = [k for k, fields in enumerate(chain) if field in fields]
+        if isinstance(t, Place) and field and len(found) == 1:
+            moved[int(t)] = found[0]
+            t = Place(found[0])
+        out.append(t)
+    return out
+
+
 def body_named(body, variables, chain, where, short=False):
     """An answer with its places named: (lets, the term). Where it is to be short, of two places the nearer alone gets a name."""
     toks = tokens(flat(body))
@@ -204,6 +218,11 @@ def body_named(body, variables, chain, where, short=False):
             del known[name]
         kept.append((name, resolve(tokens(typ), known) if typ else None, value))
     rest = resolve(rest, known)
+    if '--anchor' in sys.argv and chain:
+        moved = {}
+        kept = [(n, anchored(ty, chain, moved) if ty else None, anchored(v, chain, moved)) for n, ty, v in kept]
+        rest = anchored(rest, chain, moved)
+        called = {moved[p]: n for p, n in called.items() if p in moved}
     everything = [t for n, ty, v in kept for t in (ty or []) + [' '] + v] + [' '] + rest
     at = cited(everything)
     places = stepping([p for p in at if p > 0], chain)
@@ -261,6 +280,8 @@ def spec_arguments(text):
 
 
 def too_long(text):
+    if '--anchor' in sys.argv:
+        return '.before' in text
     again = '--again' in sys.argv and re.search(r'\blet \S+ = \S+(?: \.before)+ in\b', text)
     return longest(text) > MOST or max(map(len, text.split('\n'))) > 150 or bool(again)
 

@@ -1,4 +1,3 @@
 pub mod OneOutcome
 pub mod OneToOne
 pub mod Exactly
-pub mod Says

@@ -6,7 +6,7 @@ use lib.ListN.{take, replicate}
 use Rattle.answers.specs.declared.Told.{Told}
 use Rattle.buffer.specs.Ascii.{ascii}
 use Rattle.buffer.specs.Written.{Outcome}
-use Rattle.reading.specs.Reading.{amountOf, parseOf}
+use Rattle.reading.specs.Reading.{takeOf, parseOf}
 use Rattle.text.specs.Text.{plainText, agedText}
 use Rattle.sheet.specs.Sheet.{sheetOf}
 
@@ -55,13 +55,13 @@ twelve =
     record {
       number = 1;
       says = "15 zero bytes: 1. Sixteen: taken, text empty.";
-      given = told (amountOf (zeros 15)) ∷ told (amountOf (zeros 16)) ∷ text (zeros 16) ∷ [];
+      given = told (takeOf (zeros 15)) ∷ told (takeOf (zeros 16)) ∷ text (zeros 16) ∷ [];
       asked = (1 ∷ 0 ∷ []) ∷ (0 ∷ 16 ∷ []) ∷ (0 ∷ []) ∷ [];
     }
     ∷ record {
       number = 2;
       says = "Size 17 in 16 bytes: 2. In 17: takes 17.";
-      given = told (amountOf (17 ∷ zeros 15)) ∷ told (amountOf (17 ∷ zeros 16)) ∷ [];
+      given = told (takeOf (17 ∷ zeros 15)) ∷ told (takeOf (17 ∷ zeros 16)) ∷ [];
       asked = (2 ∷ 0 ∷ []) ∷ (0 ∷ 17 ∷ []) ∷ [];
     }
     ∷ record {

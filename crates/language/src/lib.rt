@@ -29,42 +29,42 @@ fn unpack_language_or_region(a: u8, b: u8, base: u8) -> [u8; 4]
 }
 
 // Puts a subtag of four bytes.
-fn put_four(out: &mut [u8], at: usize, src: &[u8; 4]) -> usize
+fn put_four(src: &[u8; 4], at: usize, out: &mut [u8]) -> usize
     ensures { λ r. ⌜ Put (now (out .entry)) at (subtagOf (now (src .entry))) (now (out .exit)) r ⌝ }
 {
-    put_subtag(out, at, src)
+    put_subtag(src, at, out)
 }
 
 // Puts a language of two bytes. Machinery, as all that is called `put`: it refuses nothing.
-pub fn put_language(out: &mut [u8], at: usize, a: u8, b: u8) -> usize
+pub fn put_language(a: u8, b: u8, at: usize, out: &mut [u8]) -> usize
     ensures { λ r. ⌜ Put (now (out .entry)) at (languageOf a b) (now (out .exit)) r ⌝ }
 {
     let unpacked = unpack_language_or_region(a, b, b'a');
-    put_four(out, at, &unpacked)
+    put_four(&unpacked, at, out)
 }
 
 // Puts a region of two bytes.
-pub fn put_region(out: &mut [u8], at: usize, a: u8, b: u8) -> usize
+pub fn put_region(a: u8, b: u8, at: usize, out: &mut [u8]) -> usize
     ensures { λ r. ⌜ Put (now (out .entry)) at (regionOf a b) (now (out .exit)) r ⌝ }
 {
     let unpacked = unpack_language_or_region(a, b, b'0');
-    put_four(out, at, &unpacked)
+    put_four(&unpacked, at, out)
 }
 
 // Writes a language of two bytes; where out is shorter, it is left as it is.
-pub fn write_language(out: &mut [u8], a: u8, b: u8) -> Written
+pub fn write_language(a: u8, b: u8, out: &mut [u8]) -> Written
     ensures { λ r. ⌜ outcome r (now (out .exit)) ≡ written (languageOf a b) (now (out .entry)) ⌝ }
 {
     let mut own = [0u8; 9];
-    let n = put_language(&mut own, 0, a, b);
-    write(out, &own[..n])
+    let n = put_language(a, b, 0, &mut own);
+    write(&own[..n], out)
 }
 
 // Writes a region of two bytes; where out is shorter, it is left as it is.
-pub fn write_region(out: &mut [u8], a: u8, b: u8) -> Written
+pub fn write_region(a: u8, b: u8, out: &mut [u8]) -> Written
     ensures { λ r. ⌜ outcome r (now (out .exit)) ≡ written (regionOf a b) (now (out .entry)) ⌝ }
 {
     let mut own = [0u8; 4];
-    let n = put_region(&mut own, 0, a, b);
-    write(out, &own[..n])
+    let n = put_region(a, b, 0, &mut own);
+    write(&own[..n], out)
 }

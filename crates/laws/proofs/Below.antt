@@ -45,15 +45,15 @@ in-row n test t = each-at n test (passed (eachBelow n test) t)
 
 -- a number below n at which p gives v
 pub record Spot (n : ℕ) (p : ℕ → Bool) (v : Bool) : Type 0 where
-  pub place : ℕ
-  pub within : place < n
-  pub gives : p place ≡ v
+  pub spot : ℕ
+  pub within : spot < n
+  pub gives : p spot ≡ v
 
 further : {n : ℕ} {p : ℕ → Bool} {v : Bool} → Spot n p v → Spot (suc n) p v
-further w = record { place = w .place; within = omega (arith, w .within); gives = w .gives }
+further w = record { spot = w .spot; within = omega (arith, w .within); gives = w .gives }
 
 some-by : (n : ℕ) (p : ℕ → Bool) (b : Bool) → p n ≡ b → b || someBelow n p ≡ true → (someBelow n p ≡ true → Spot n p true) → Spot (suc n) p true
-some-by n p true q e ih = record { place = n; within = omega arith; gives = q }
+some-by n p true q e ih = record { spot = n; within = omega arith; gives = q }
 some-by n p false q e ih = further (ih e)
 
 -- where a test holds at some, there is one
@@ -63,7 +63,7 @@ some-spot (suc n) p e = some-by n p (p n) refl e (some-spot n p)
 
 each-by : (n : ℕ) (p : ℕ → Bool) (b : Bool) → p n ≡ b → b && eachBelow n p ≡ false → (eachBelow n p ≡ false → Spot n p false) → Spot (suc n) p false
 each-by n p true q e ih = further (ih e)
-each-by n p false q e ih = record { place = n; within = omega arith; gives = q }
+each-by n p false q e ih = record { spot = n; within = omega arith; gives = q }
 
 -- where a test doesn't hold at each, there is one at which it fails
 pub each-spot : (n : ℕ) (p : ℕ → Bool) → eachBelow n p ≡ false → Spot n p false

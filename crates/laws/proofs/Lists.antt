@@ -16,7 +16,7 @@ rest s m = take (length s - m) (drop m s)
 pub rest-is : (s : List ℕ) (m : ℕ) → rest s m ≡ drop m s
 rest-is s m = take-all (length s - m) (drop m s) (omega (arith, length-drop m s))
 
--- from the lesser of a place and the end on
+-- from the lesser of an offset and the end on
 pub rest-from : (s : List ℕ) (p m : ℕ) → m ≡ min p (length s) → rest s m ≡ drop p s
 rest-from s p m e =
     elim (decLe p (length s)) [
@@ -28,13 +28,13 @@ rest-from s p m e =
 pub part-long : (s : List ℕ) (a n : ℕ) → a + n ≤ length s → length (take n (drop a s)) ≡ n
 part-long s a n h = omega (arith, length-take n (drop a s), length-drop a s)
 
--- an element of a part, by its place in the whole
+-- an element of a part, by its offset in the whole
 pub part-at : (s : List ℕ) (a n k : ℕ) → a ≤ k → k - a < n → getD (take n (drop a s)) (k - a) 0 ≡ getD s k 0
 part-at s a n k h g =
     let e : a + (k - a) ≡ k = omega arith in
     getD-take n (drop a s) (k - a) 0 g ∙ getD-drop a s (k - a) 0 ∙ ap (λ (m : ℕ). getD s m 0) e
 
--- n elements of s, from place i + k on
+-- n elements of s, from offset i + k on
 abbrev pub listed : List ℕ → ℕ → ℕ → ℕ → List ℕ
 listed s i k zero = []
 listed s i k (suc n) = getD s (i + k) 0 ∷ listed s i (suc k) n
@@ -45,7 +45,7 @@ part-listed s i k (suc n) h =
     let p : i + k < length s = omega arith in
     rw (drop-cons s (i + k) 0, ← add-suc i k, part-listed s i (suc k) n (omega (arith, add-suc i k)))
 
--- one element and more: what a read of n + 1 bytes from place i on gives, whatever n is
+-- one element and more: what a read of n + 1 bytes from offset i on gives, whatever n is
 pub row : (s : List ℕ) (i n : ℕ) → i + suc n ≤ length s → getD s i 0 ∷ listed s i 1 n ≡ take (suc n) (drop i s)
 row s i n h = sym (simp add-zero at (part-listed s i 0 (suc n) (omega arith)))
 

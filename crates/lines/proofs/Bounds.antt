@@ -11,7 +11,7 @@ use Rattle.answers.proofs.OneToOne.{number-most}
 use Rattle.buffer.specs.Decimal.{decimal}
 use Rattle.buffer.proofs.Digits.{decimal-long}
 use Rattle.record.specs.Table.{Bytes}
-use Rattle.reading.specs.Reading.{amountOf, sizeOf}
+use Rattle.reading.specs.Reading.{takeOf, sizeOf}
 use Rattle.reading.proofs.Whole.{took-says}
 use Rattle.runs.specs.declared.Stop.{Stop}
 use Rattle.runs.specs.Fronts.{stopTells}
@@ -35,7 +35,7 @@ unfolding stopLine
 stop-long d p stop h = let g = stop-digit stop in simp length-append (omega arith)
 
 -- the line of a record that stands whole in 65,536 bytes, with an index that is at most its offset
-pub whole-long : (a i p t : ℕ) (s : List ℕ) → Bytes s → success t ≡ amountOf s → i ≤ p → p + length s ≤ 65536 → length (recordLine a i p s) ≤ 1066
+pub whole-long : (a i p t : ℕ) (s : List ℕ) → Bytes s → success t ≡ takeOf s → i ≤ p → p + length s ≤ 65536 → length (recordLine a i p s) ≤ 1066
 whole-long a i p t s h e l k =
     let w = took-says s t e .1 in
     record-long 4 4 4 a i p s h (decimal-long 4 i (omega arith)) (decimal-long 4 p (omega arith)) (decimal-long 4 (sizeOf s) (omega arith))

@@ -57,8 +57,8 @@ pub fn age_line(age: Age, out: &mut [u8]) -> Written
     ensures { λ r. ⌜ outcome r (now (out .exit)) ≡ written (ageLine (age .0)) (now (out .entry)) ⌝ }
 {
     let mut own = [0u8; LONGEST_AGE_LINE];
-    let n = put_between(&mut own, 0, b"age ", age.0 as u64, b"\n");
-    write(out, &own[..n])
+    let n = put_between(b"age ", age.0 as u64, b"\n", 0, &mut own);
+    write(&own[..n], out)
 }
 
 // Writes the line with the offset where a run stopped, and the number of why.
@@ -67,10 +67,10 @@ pub fn stop_line(offset: usize, stop: Stop, out: &mut [u8]) -> Written
 {
     let number = stop.told().number;
     let mut own = [0u8; LONGEST_STOP_LINE];
-    let a = put_between(&mut own, 0, b"stop ", offset as u64, b" ");
-    let b = put_decimal(&mut own, a, number as u64);
-    let n = put_byte(&mut own, b, b'\n');
-    write(out, &own[..n])
+    let a = put_between(b"stop ", offset as u64, b" ", 0, &mut own);
+    let b = put_decimal(number as u64, a, &mut own);
+    let n = put_byte(b'\n', b, &mut own);
+    write(&own[..n], out)
 }
 
 // Goes on at next where a line was written, and stays at a cursor where it was refused.

@@ -15,37 +15,37 @@ ghost use Rattle.subtag.specs.Subtag.{subtagOf};
 ghost use Rattle.locale.specs.Locale.{language, region, begins, hasRegion, scriptProvided, isNew, behind, legacyWords, newWords, localeWords, localeText};
 
 // The record's language, put.
-fn put_own_language(out: &mut [u8], at: usize, r: ResTableConfig) -> usize
+fn put_own_language(r: ResTableConfig, at: usize, out: &mut [u8]) -> usize
     ensures { λ n. ⌜ Put (now (out .entry)) at (language r) (now (out .exit)) n ⌝ }
 {
     let locale = r.locale;
-    put_language(out, at, (locale % 256) as u8, (locale / 256 % 256) as u8)
+    put_language((locale % 256) as u8, (locale / 256 % 256) as u8, at, out)
 }
 
 // The record's region behind its sign, where there is one.
-fn put_own_region(out: &mut [u8], at: usize, sign: &[u8], r: ResTableConfig) -> usize
+fn put_own_region(sign: &[u8], r: ResTableConfig, at: usize, out: &mut [u8]) -> usize
     ensures { λ n. ⌜ Put (now (out .entry)) at (behind (hasRegion r) (now (sign .entry)) (region r)) (now (out .exit)) n ⌝ }
 {
     let locale = r.locale;
     if locale / 65536 % 256 == 0 {
         return at;
     }
-    let a = put(out, at, sign);
+    let a = put(sign, at, out);
     put_region(
-        out,
-        a,
         (locale / 65536 % 256) as u8,
         (locale / 16777216) as u8,
+        a,
+        out,
     )
 }
 
 // A subtag behind a sign, where it is there.
-fn put_behind(out: &mut [u8], at: usize, there: bool, sign: &[u8], src: &[u8]) -> usize
+fn put_behind(there: bool, sign: &[u8], src: &[u8], at: usize, out: &mut [u8]) -> usize
     ensures { λ n. ⌜ Put (now (out .entry)) at (behind there (now (sign .entry)) (subtagOf (now (src .entry)))) (now (out .exit)) n ⌝ }
 {
     if there {
-        let a = put(out, at, sign);
-        put_subtag(out, a, src)
+        let a = put(sign, at, out);
+        put_subtag(src, a, out)
     } else {
         at
     }
@@ -70,42 +70,42 @@ fn eight_begin(src: [u8; 8]) -> bool
 }
 
 // Puts the legacy format.
-fn put_legacy(out: &mut [u8], at: usize, r: ResTableConfig) -> usize
+fn put_legacy(r: ResTableConfig, at: usize, out: &mut [u8]) -> usize
     ensures { λ n. ⌜ Put (now (out .entry)) at (legacyWords r) (now (out .exit)) n ⌝ }
 {
-    let a = put_own_language(out, at, r);
-    put_own_region(out, a, b"-r", r)
+    let a = put_own_language(r, at, out);
+    put_own_region(b"-r", r, a, out)
 }
 
 // The record's script behind a plus, where it was provided.
-fn put_script(out: &mut [u8], at: usize, r: ResTableConfig) -> usize
+fn put_script(r: ResTableConfig, at: usize, out: &mut [u8]) -> usize
     ensures { λ n. ⌜ Put (now (out .entry)) at (behind (scriptProvided r) (ascii "+") (subtagOf (r .«locale_script»))) (now (out .exit)) n ⌝ }
 {
     let script = r.locale_script;
     let there = script_provided(r);
-    put_behind(out, at, there, b"+", &script)
+    put_behind(there, b"+", &script, at, out)
 }
 
 // Eight bytes behind a sign, where they begin with one that isn't 0.
-fn put_begun(out: &mut [u8], at: usize, sign: &[u8], src: [u8; 8]) -> usize
+fn put_begun(sign: &[u8], src: [u8; 8], at: usize, out: &mut [u8]) -> usize
     ensures { λ n. ⌜ Put (now (out .entry)) at (behind (begins src) (now (sign .entry)) (subtagOf src)) (now (out .exit)) n ⌝ }
 {
     let there = eight_begin(src);
-    put_behind(out, at, there, sign, &src)
+    put_behind(there, sign, &src, at, out)
 }
 
 // Puts the new format.
-fn put_new(out: &mut [u8], at: usize, r: ResTableConfig) -> usize
+fn put_new(r: ResTableConfig, at: usize, out: &mut [u8]) -> usize
     ensures { λ n. ⌜ Put (now (out .entry)) at (newWords r) (now (out .exit)) n ⌝ }
 {
     let variant = r.locale_variant;
     let numbering = r.locale_numbering_system;
-    let a = put(out, at, b"b+");
-    let b = put_own_language(out, a, r);
-    let c = put_script(out, b, r);
-    let d = put_own_region(out, c, b"+", r);
-    let e = put_begun(out, d, b"+", variant);
-    put_begun(out, e, b"+u+nu+", numbering)
+    let a = put(b"b+", at, out);
+    let b = put_own_language(r, a, out);
+    let c = put_script(r, b, out);
+    let d = put_own_region(b"+", r, c, out);
+    let e = put_begun(b"+", variant, d, out);
+    put_begun(b"+u+nu+", numbering, e, out)
 }
 
 // Whether the new format is called for.
@@ -124,32 +124,32 @@ fn is_new(r: ResTableConfig) -> bool
 }
 
 // Puts the words of a record's locale, whether or not they are said.
-pub fn put_locale(out: &mut [u8], at: usize, r: ResTableConfig) -> usize
+pub fn put_locale(r: ResTableConfig, at: usize, out: &mut [u8]) -> usize
     ensures { λ n. ⌜ Put (now (out .entry)) at (localeWords r) (now (out .exit)) n ⌝ }
 {
     if is_new(r) {
-        put_new(out, at, r)
+        put_new(r, at, out)
     } else {
-        put_legacy(out, at, r)
+        put_legacy(r, at, out)
     }
 }
 
 // Puts the words of a record's locale where they are said.
-fn put_said(out: &mut [u8], at: usize, r: ResTableConfig) -> usize
+fn put_said(r: ResTableConfig, at: usize, out: &mut [u8]) -> usize
     ensures { λ n. ⌜ Put (now (out .entry)) at (localeText r) (now (out .exit)) n ⌝ }
 {
     if r.locale % 256 == 0 {
         at
     } else {
-        put_locale(out, at, r)
+        put_locale(r, at, out)
     }
 }
 
 // Writes what a record's locale says, as 000 appends it to an empty text; where out is shorter, it is left as it is.
-pub fn write_locale(out: &mut [u8], r: ResTableConfig) -> Written
+pub fn write_locale(r: ResTableConfig, out: &mut [u8]) -> Written
     ensures { λ n. ⌜ outcome n (now (out .exit)) ≡ written (localeText r) (now (out .entry)) ⌝ }
 {
     let mut own = [0u8; 84];
-    let n = put_said(&mut own, 0, r);
-    write(out, &own[..n])
+    let n = put_said(r, 0, &mut own);
+    write(&own[..n], out)
 }

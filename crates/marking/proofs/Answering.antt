@@ -1,4 +1,4 @@
--- The cases of holding back and of writing the marks, by what `amount` answers. Assumes nothing.
+-- The cases of holding back and of writing the marks, by what `take` answers. Assumes nothing.
 use Prim.Native.Nat.{ℕ}
 use mathlib.Core.Path.{_≡_, _∙_}
 use mathlib.Core.Bool.{Bool, true, cond}
@@ -6,20 +6,20 @@ use mathlib.Core.List.{List}
 use Rattle.answers.specs.declared.Refusal.{Refusal}
 use Rattle.answers.specs.Tells.{success, refusal}
 use Rattle.record.specs.Ages.{isAge}
-use Rattle.reading.specs.Reading.{ifWhole, ifAge, amountOf}
+use Rattle.reading.specs.Reading.{ifWhole, ifAge, takeOf}
 use Rattle.reading.proofs.Whole.{age-known, took-says, took-whole, refused-whole}
 use Rattle.marking.specs.Marks.{lateBytes, heldBack, heldOf}
 
 -- of every call at an age: what is given, or the refusal
 module _ {A : Type 0} (a : ℕ) (s : List ℕ) (refuse : Refusal → A) (give : A) (known : true ≡ isAge a) where
-  pub gives : (n : ℕ) → success n ≡ amountOf s → ifAge a refuse (ifWhole s refuse give) ≡ give
+  pub gives : (n : ℕ) → success n ≡ takeOf s → ifAge a refuse (ifWhole s refuse give) ≡ give
   gives n e = age-known a refuse _ known ∙ took-whole s refuse give n e
 
-  pub refuses : (why : Refusal) → refusal why ≡ amountOf s → ifAge a refuse (ifWhole s refuse give) ≡ refuse why
+  pub refuses : (why : Refusal) → refusal why ≡ takeOf s → ifAge a refuse (ifWhole s refuse give) ≡ refuse why
   refuses why e = age-known a refuse _ known ∙ refused-whole s refuse give why e
 
 -- yes or no, by the bytes that were looked at
-pub held-said : (a : ℕ) (s : List ℕ) (n : ℕ) (late : Bool) → true ≡ isAge a → success n ≡ amountOf s → late ≡ lateBytes s n a
+pub held-said : (a : ℕ) (s : List ℕ) (n : ℕ) (late : Bool) → true ≡ isAge a → success n ≡ takeOf s → late ≡ lateBytes s n a
     → success (cond late 1 0) ≡ heldOf a s
 unfolding heldBack
 held-said a s n late known e l = rw (gives a s _ _ known n e, l, took-says s n e .0)

@@ -7,22 +7,19 @@ use native.Mathlib.Nat.{le-of-suc-le-suc, not-suc-le-zero}
 use native.Mathlib.Numerals.{add-one}
 use native.Mathlib.Omega.{arith}
 use native.Mathlib.Decide.{decLe}
-use lib.Dec.{eqb, leb, ltb, eqb→eq}
+use lib.Dec.{eqb, leb, ltb}
 use lib.ListN.{length, getD, take}
-use borrow.Author.Tests.{lt-ltb, le-ltb, le-leb, lt-leb}
+use borrow.Author.Tests.{eqb-true, lt-ltb, le-ltb, le-leb, lt-leb}
+use Rattle.laws.proofs.Choice.{cond-not}
+use Rattle.laws.proofs.Below.{in-row}
 use Rattle.record.specs.Table.{part, allZero, endOf}
 use Rattle.buffer.specs.Put.{Put}
 use Rattle.buffer.proofs.Putting.{put-turn}
 use Rattle.reading.specs.Reading.{reads, sizeOf, taken}
 use Rattle.reading.proofs.Limits.{reads-is}
-use Rattle.reading.proofs.Rows.{in-row}
 use Rattle.marking.specs.declared.Mark.{Mark}
 use Rattle.marking.specs.Marks.{letterOf, markBetween, markIn, lettersIn, lateBytes}
 use Rattle.marking.proofs.Zeros.{drop-take}
-
-cond-not : {A : Type 0} (b : Bool) (x y : A) → cond (not b) x y ≡ cond b y x
-cond-not true x y = refl
-cond-not false x y = refl
 
 module _ (a t : ℕ) (s : List ℕ) (start end : ℕ) where
   -- its end is past a
@@ -70,7 +67,7 @@ pub mark-at : (a t : ℕ) (s : List ℕ) (i : ℕ) → i < 14 → getD (lettersI
 unfolding lettersIn
 mark-at a t s i h =
     map-at (λ f. letterOf (markIn a t s f)) fields i h
-    ∙ ap (λ (f : ℕ). letterOf (markIn a t s f)) (eqb→eq (getD fields i 0) (i + 1) (in-row (λ j. eqb (getD fields j 0) (j + 1)) 14 tt i h))
+    ∙ ap (λ (f : ℕ). letterOf (markIn a t s f)) (eqb-true (getD fields i 0) (i + 1) (in-row 14 (λ j. eqb (getD fields j 0) (j + 1)) tt i h))
 
 -- one more letter is put
 pub mark-next : (a t : ℕ) (s : List ℕ) {old m n : List ℕ} {at o r : ℕ} (i v : ℕ) → i < 14 → v ≡ letterOf (markIn a t s (i + 1))

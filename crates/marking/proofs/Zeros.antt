@@ -1,4 +1,4 @@
--- Bytes that are all zero, one by one and by their places. Assumes nothing.
+-- Bytes that are all zero, one by one and by their offsets. Assumes nothing.
 use Prim.Native.Nat.{ℕ, zero, suc, _+_, _-_, _≤_, _<_, min}
 use mathlib.Core.Path.{_≡_, refl, sym, ap, _∙_}
 use mathlib.Core.Bool.{Bool, true, false, _&&_, true≢false}
@@ -19,7 +19,7 @@ drop-take (suc a) zero s = sym (ap (part s (suc a)) (zero-sub (suc a)))
 drop-take (suc a) (suc t) [] = sym (take-nil (suc t - suc a))
 drop-take (suc a) (suc t) (x ∷ s) = drop-take a t s ∙ ap (part s a) (sym (suc-sub-suc t a))
 
--- the search for a byte that isn't zero: at place i, and past the last
+-- the search for a byte that isn't zero: at offset i, and past the last
 module _ (s : List ℕ) (n i : ℕ) where
   front : i < min n (length s) → drop i (take n s) ≡ getD s i 0 ∷ drop (i + 1) (take n s)
   front h =
@@ -38,14 +38,14 @@ module _ (s : List ℕ) (n i : ℕ) where
 
 -- a byte that isn't zero
 pub record Found (l : List ℕ) : Type 0 where
-  pub place : ℕ
-  pub inside : place < length l
-  pub found : getD l place 0 ≡ 0 → ⊥
+  pub offset : ℕ
+  pub inside : offset < length l
+  pub found : getD l offset 0 ≡ 0 → ⊥
 
 found-by : (x : ℕ) (l : List ℕ) (b : Bool) → eqb x 0 ≡ b → (allZero l ≡ false → Found l) → b && allZero l ≡ false → Found (x ∷ l)
 found-by x l true p more e =
-    let m = more e in record { place = m .place + 1; inside = omega (arith, m .inside); found = rw (add-one (m .place)) (m .found) }
-found-by x l false p more e = record { place = 0; inside = omega arith; found = eqb-false x 0 p }
+    let m = more e in record { offset = m .offset + 1; inside = omega (arith, m .inside); found = rw (add-one (m .offset)) (m .found) }
+found-by x l false p more e = record { offset = 0; inside = omega arith; found = eqb-false x 0 p }
 
 -- bytes that aren't all zero have one that isn't
 pub some-found : (l : List ℕ) → allZero l ≡ false → Found l

@@ -16,18 +16,18 @@ use Rattle.marking.specs.Marks.{marksOutcome, heldBack, heldOf}
 abbrev pub isHeldBack : ℕ → List ℕ → Condition
 isHeldBack a s = record { holds = heldBack a s; why = Refusal.HeldBack }
 
--- one of the T bytes at offset a or later that isn't zero: its place
+-- one of the T bytes at offset a or later that isn't zero: its offset
 pub record Late (a : ℕ) (s : List ℕ) : Type 0 where
-  pub place : ℕ
-  pub late : a ≤ place
-  pub within : place < taken s
-  pub found : getD s place 0 ≡ 0 → ⊥
+  pub offset : ℕ
+  pub late : a ≤ offset
+  pub within : offset < taken s
+  pub found : getD s offset 0 ≡ 0 → ⊥
 
 -- a record is held back exactly when there is such a byte; bytes in no field and the tail past 64 count like any others
 abbrev pub HeldWhenLate : ℕ → List ℕ → Type 0
 HeldWhenLate a s = (heldBack a s ≡ true) ↔ Late a s
 
--- `marks` and, from a place on, `marks_at`: 3, 1, 2, 5
+-- `marks` and, from an offset on, `marks_at`: 3, 1, 2, 5
 abbrev pub MarksRefuse : ℕ → List ℕ → List ℕ → Type 0
 MarksRefuse a s old = Refuses (notAnAge a ∷ fewerThan16 s ∷ fewerThanSize s ∷ shorterThan 14 old ∷ []) old (marksOutcome a s old)
 

@@ -4,8 +4,8 @@ use answers::Taken;
 use answers::Told;
 use answers::Written;
 use buffer::put_byte;
-use reading::amount;
 use reading::lesser;
+use reading::take;
 use record::Age;
 use record::ENDS;
 use record::STARTS;
@@ -88,7 +88,7 @@ pub fn held_back(bytes: &[u8], age: Age) -> Held
     if !age.is_age() {
         return Held::Refused(Refusal::NotAnAge);
     }
-    match amount(bytes) {
+    match take(bytes) {
         Taken::Took(n) => {
             if late_bytes(bytes, n, age.0 as usize) {
                 Held::Yes
@@ -127,7 +127,7 @@ pub fn put_marks(bytes: &[u8], t: usize, age: usize, at: usize, out: &mut [u8]) 
     let mut i = 0;
     while i < 14 {
         let letter = mark_of(bytes, t, age, starts[i + 1], ends[i + 1]).letter();
-        o = put_byte(out, o, letter);
+        o = put_byte(letter, o, out);
         i += 1;
     }
     o
@@ -151,7 +151,7 @@ pub fn marks(bytes: &[u8], age: Age, out: &mut [u8]) -> Written
     if !age.is_age() {
         return Written::Refused(Refusal::NotAnAge);
     }
-    match amount(bytes) {
+    match take(bytes) {
         Taken::Took(n) => write_marks(bytes, n, age.0 as usize, out),
         Taken::Refused(why) => Written::Refused(why),
     }

@@ -9,16 +9,16 @@ ghost use Rattle.words.specs.Words.{wordsOf};
 ghost use Rattle.places.specs.Say.{dashAt};
 
 // The dash that stands before a place, unless the place is the first.
-pub fn dash(out: &mut [u8], at: usize) -> usize
+pub fn dash(at: usize, out: &mut [u8]) -> usize
     ensures { λ r. ⌜ Put (now (out .entry)) at (dashAt at) (now (out .exit)) r ⌝ }
 {
-    if 0 < at { put_byte(out, at, b'-') } else { at }
+    if 0 < at { put_byte(b'-', at, out) } else { at }
 }
 
 // A kind that is said: the dash, and its words.
-pub fn say_kind(out: &mut [u8], at: usize, kind: Kind) -> usize
+pub fn say_kind(kind: Kind, at: usize, out: &mut [u8]) -> usize
     ensures { λ r. ⌜ Put (now (out .entry)) at (dashAt at ++ wordsOf kind) (now (out .exit)) r ⌝ }
 {
-    let a = dash(out, at);
-    put_words(out, a, kind)
+    let a = dash(at, out);
+    put_words(kind, a, out)
 }

@@ -23,36 +23,36 @@ ghost use Rattle.places.specs.Say.{Says};
 ghost use Rattle.places.specs.Places.{placesOf, textOf};
 
 // Places 13 to 17: orientation, UI type, night, density and touch.
-fn places_from_13(out: &mut [u8], at: usize, r: ResTableConfig) -> usize
+fn places_from_13(r: ResTableConfig, at: usize, out: &mut [u8]) -> usize
     ensures { λ n. ⌜ Says (now (out .entry)) at (take 5 (drop 13 (placesOf r))) (now (out .exit)) n ⌝ }
 {
     let screen = r.get_orientation_touchscreen_density();
     let layout = r.get_screen_layout_ui_smallest_width();
-    let a = orientation_place(out, at, screen.orientation);
-    let b = ui_mode_place(out, a, layout.ui_mode);
-    let c = ui_mode_night_place(out, b, layout.ui_mode);
-    let d = density_place(out, c, screen.density);
-    touchscreen_place(out, d, screen.touchscreen)
+    let a = orientation_place(screen.orientation, at, out);
+    let b = ui_mode_place(layout.ui_mode, a, out);
+    let c = ui_mode_night_place(layout.ui_mode, b, out);
+    let d = density_place(screen.density, c, out);
+    touchscreen_place(screen.touchscreen, d, out)
 }
 
 // Places 18 to 23: keys and navigation, pixel size and version.
-fn places_from_18(out: &mut [u8], at: usize, r: ResTableConfig) -> usize
+fn places_from_18(r: ResTableConfig, at: usize, out: &mut [u8]) -> usize
     ensures { λ n. ⌜ Says (now (out .entry)) at (drop 18 (placesOf r)) (now (out .exit)) n ⌝ }
 {
     let input = r.get_keyboard_navigation_input_flags();
-    let a = keys_hidden_place(out, at, input.input_flags);
-    let b = keyboard_place(out, a, input.keyboard);
-    let c = nav_hidden_place(out, b, input.input_flags);
-    let d = navigation_place(out, c, input.navigation);
-    let e = pixel_place(out, d, r);
-    version_place(out, e, r)
+    let a = keys_hidden_place(input.input_flags, at, out);
+    let b = keyboard_place(input.keyboard, a, out);
+    let c = nav_hidden_place(input.input_flags, b, out);
+    let d = navigation_place(input.navigation, c, out);
+    let e = pixel_place(r, d, out);
+    version_place(r, e, out)
 }
 
 // Puts the text of a record at the front of out.
-pub fn put_text(out: &mut [u8], r: ResTableConfig) -> usize
+pub fn put_text(r: ResTableConfig, out: &mut [u8]) -> usize
     ensures { λ n. ⌜ Put (now (out .entry)) 0 (textOf r) (now (out .exit)) n ⌝ }
 {
-    let a = put_first(out, r);
-    let b = places_from_13(out, a, r);
-    places_from_18(out, b, r)
+    let a = put_first(r, out);
+    let b = places_from_13(r, a, out);
+    places_from_18(r, b, out)
 }

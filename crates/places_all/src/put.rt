@@ -10,37 +10,37 @@ ghost use Rattle.places.specs.Say.{Says};
 ghost use Rattle.places.specs.Places.{pixelPlace, versionPlace, minorWords};
 
 // Both sides in pixels.
-pub(crate) fn pixel_place(out: &mut [u8], at: usize, r: ResTableConfig) -> usize
+pub(crate) fn pixel_place(r: ResTableConfig, at: usize, out: &mut [u8]) -> usize
     ensures { λ n. ⌜ Says (now (out .entry)) at (pixelPlace r ∷ []) (now (out .exit)) n ⌝ }
 {
     if r.screen_size == 0 {
         return at;
     }
     let sides = r.get_screen_width_height();
-    let a = dash(out, at);
-    let b = put_between(out, a, b"", sides.screen_width as u64, b"x");
-    put_decimal(out, b, sides.screen_height as u64)
+    let a = dash(at, out);
+    let b = put_between(b"", sides.screen_width as u64, b"x", a, out);
+    put_decimal(sides.screen_height as u64, b, out)
 }
 
 // A minor version behind a dot, unless it is 0.
-fn put_minor(out: &mut [u8], at: usize, minor: u16) -> usize
+fn put_minor(minor: u16, at: usize, out: &mut [u8]) -> usize
     ensures { λ r. ⌜ Put (now (out .entry)) at (minorWords minor) (now (out .exit)) r ⌝ }
 {
     if minor == 0 {
         return at;
     }
-    put_label(out, at, b".", minor as u64)
+    put_label(b".", minor as u64, at, out)
 }
 
 // The platform's version.
-pub(crate) fn version_place(out: &mut [u8], at: usize, r: ResTableConfig) -> usize
+pub(crate) fn version_place(r: ResTableConfig, at: usize, out: &mut [u8]) -> usize
     ensures { λ n. ⌜ Says (now (out .entry)) at (versionPlace r ∷ []) (now (out .exit)) n ⌝ }
 {
     if r.version == 0 {
         return at;
     }
     let version = r.get_sdk_minor_version();
-    let a = dash(out, at);
-    let b = put_label(out, a, b"v", version.sdk_version as u64);
-    put_minor(out, b, version.minor_version)
+    let a = dash(at, out);
+    let b = put_label(b"v", version.sdk_version as u64, a, out);
+    put_minor(version.minor_version, b, out)
 }

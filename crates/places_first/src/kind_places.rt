@@ -23,84 +23,84 @@ ghost use Rattle.places.specs.Places.{kindPlace};
 ghost use Rattle.kinds.specs.declared.Kind.{Kind};
 
 // The place of a GrammaticalGender.
-pub(crate) fn grammatical_gender_place(out: &mut [u8], at: usize, n: u8) -> usize
+pub(crate) fn grammatical_gender_place(n: u8, at: usize, out: &mut [u8]) -> usize
     ensures { λ r. ⌜ Says (now (out .entry)) at (kindPlace (Kind.GrammaticalGender (grammaticalGenderOf n)) ∷ []) (now (out .exit)) r ⌝ }
 {
     let kind = GrammaticalGender::from(n);
     if grammatical_gender_said(kind) {
-        say_kind(out, at, Kind::GrammaticalGender(kind))
+        say_kind(Kind::GrammaticalGender(kind), at, out)
     } else {
         at
     }
 }
 
 // The place of a LayoutDir.
-pub(crate) fn layout_dir_place(out: &mut [u8], at: usize, n: u8) -> usize
+pub(crate) fn layout_dir_place(n: u8, at: usize, out: &mut [u8]) -> usize
     ensures { λ r. ⌜ Says (now (out .entry)) at (kindPlace (Kind.LayoutDir (layoutDirOf n)) ∷ []) (now (out .exit)) r ⌝ }
 {
     let kind = LayoutDir::from(n);
     if layout_dir_said(kind) {
-        say_kind(out, at, Kind::LayoutDir(kind))
+        say_kind(Kind::LayoutDir(kind), at, out)
     } else {
         at
     }
 }
 
 // The place of a ScreenSize.
-pub(crate) fn screen_size_place(out: &mut [u8], at: usize, n: u8) -> usize
+pub(crate) fn screen_size_place(n: u8, at: usize, out: &mut [u8]) -> usize
     ensures { λ r. ⌜ Says (now (out .entry)) at (kindPlace (Kind.ScreenSize (screenSizeOf n)) ∷ []) (now (out .exit)) r ⌝ }
 {
     let kind = ScreenSize::from(n);
     if screen_size_said(kind) {
-        say_kind(out, at, Kind::ScreenSize(kind))
+        say_kind(Kind::ScreenSize(kind), at, out)
     } else {
         at
     }
 }
 
 // The place of a ScreenLong.
-pub(crate) fn screen_long_place(out: &mut [u8], at: usize, n: u8) -> usize
+pub(crate) fn screen_long_place(n: u8, at: usize, out: &mut [u8]) -> usize
     ensures { λ r. ⌜ Says (now (out .entry)) at (kindPlace (Kind.ScreenLong (screenLongOf n)) ∷ []) (now (out .exit)) r ⌝ }
 {
     let kind = ScreenLong::from(n);
     if screen_long_said(kind) {
-        say_kind(out, at, Kind::ScreenLong(kind))
+        say_kind(Kind::ScreenLong(kind), at, out)
     } else {
         at
     }
 }
 
 // The place of a ScreenRound.
-pub(crate) fn screen_round_place(out: &mut [u8], at: usize, n: u8) -> usize
+pub(crate) fn screen_round_place(n: u8, at: usize, out: &mut [u8]) -> usize
     ensures { λ r. ⌜ Says (now (out .entry)) at (kindPlace (Kind.ScreenRound (screenRoundOf n)) ∷ []) (now (out .exit)) r ⌝ }
 {
     let kind = ScreenRound::from(n);
     if screen_round_said(kind) {
-        say_kind(out, at, Kind::ScreenRound(kind))
+        say_kind(Kind::ScreenRound(kind), at, out)
     } else {
         at
     }
 }
 
 // The place of a WideColorGamut.
-pub(crate) fn wide_color_gamut_place(out: &mut [u8], at: usize, n: u8) -> usize
+pub(crate) fn wide_color_gamut_place(n: u8, at: usize, out: &mut [u8]) -> usize
     ensures { λ r. ⌜ Says (now (out .entry)) at (kindPlace (Kind.WideColorGamut (wideColorGamutOf n)) ∷ []) (now (out .exit)) r ⌝ }
 {
     let kind = WideColorGamut::from(n);
     if wide_color_gamut_said(kind) {
-        say_kind(out, at, Kind::WideColorGamut(kind))
+        say_kind(Kind::WideColorGamut(kind), at, out)
     } else {
         at
     }
 }
 
 // The place of an Hdr.
-pub(crate) fn hdr_place(out: &mut [u8], at: usize, n: u8) -> usize
+pub(crate) fn hdr_place(n: u8, at: usize, out: &mut [u8]) -> usize
     ensures { λ r. ⌜ Says (now (out .entry)) at (kindPlace (Kind.Hdr (hdrOf n)) ∷ []) (now (out .exit)) r ⌝ }
 {
     let kind = Hdr::from(n);
     if hdr_said(kind) {
-        say_kind(out, at, Kind::Hdr(kind))
+        say_kind(Kind::Hdr(kind), at, out)
     } else {
         at
     }

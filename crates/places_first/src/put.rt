@@ -10,34 +10,34 @@ ghost use Rattle.places.specs.Say.{Says};
 ghost use Rattle.places.specs.Places.{labelPlace, dpPlace};
 
 // A number behind a word.
-pub(crate) fn label_place(out: &mut [u8], at: usize, front: &[u8], n: u16) -> usize
+pub(crate) fn label_place(front: &[u8], n: u16, at: usize, out: &mut [u8]) -> usize
     ensures { λ r. ⌜ Says (now (out .entry)) at (labelPlace (now (front .entry)) n ∷ []) (now (out .exit)) r ⌝ }
 {
     if n == 0 {
         return at;
     }
-    let a = dash(out, at);
-    put_label(out, a, front, n as u64)
+    let a = dash(at, out);
+    put_label(front, n as u64, a, out)
 }
 
 // A number of dp behind a word.
-pub(crate) fn dp_place(out: &mut [u8], at: usize, front: &[u8], n: u16) -> usize
+pub(crate) fn dp_place(front: &[u8], n: u16, at: usize, out: &mut [u8]) -> usize
     ensures { λ r. ⌜ Says (now (out .entry)) at (dpPlace (now (front .entry)) n ∷ []) (now (out .exit)) r ⌝ }
 {
     if n == 0 {
         return at;
     }
-    let a = dash(out, at);
-    put_between(out, a, front, n as u64, b"dp")
+    let a = dash(at, out);
+    put_between(front, n as u64, b"dp", a, out)
 }
 
 // The locale.
-pub(crate) fn locale_place(out: &mut [u8], at: usize, r: ResTableConfig) -> usize
+pub(crate) fn locale_place(r: ResTableConfig, at: usize, out: &mut [u8]) -> usize
     ensures { λ n. ⌜ Says (now (out .entry)) at ((localeSaid r, localeWords r) ∷ []) (now (out .exit)) n ⌝ }
 {
     if r.locale % 256 == 0 {
         return at;
     }
-    let a = dash(out, at);
-    put_locale(out, a, r)
+    let a = dash(at, out);
+    put_locale(r, a, out)
 }

@@ -96,11 +96,11 @@ module _ {M : Type 1} (𝓤 : URA M) (H : Heap 𝓤) (A : Atoms 𝓤) where
     abbrev S : Signature
     S = T .signature
 
-    abbrev Says : Clauses 𝓤 T
-    Says κs a = record { ghost = Unit {0}; requires = λ _. emp 𝓤; ensures = λ _. E κs a }
+    abbrev Claims : Clauses 𝓤 T
+    Claims κs a = record { ghost = Unit {0}; requires = λ _. emp 𝓤; ensures = λ _. E κs a }
 
     abbrev pub Promise : Contract 𝓤
-    Promise = tripleOf 𝓤 H A S (closing 𝓤 H A T Says)
+    Promise = tripleOf 𝓤 H A S (closing 𝓤 H A T Claims)
 
     -- ---- the end of a call, at the arguments x
     module _ (W : Given 𝓤 H A) (x : Bound 𝓤 H A S) where
@@ -112,7 +112,7 @@ module _ {M : Type 1} (𝓤 : URA M) (H : Heap 𝓤) (A : Atoms 𝓤) where
       Left u r = Back 𝓤 H A S x u r
 
       abbrev Told : Result .Denot → SProp 𝓤
-      Told r = ensured 𝓤 H A T Says (x .0) (x .3) tt r
+      Told r = ensured 𝓤 H A T Claims (x .0) (x .3) tt r
 
       -- what is ensured, where nothing is said of last values
       abbrev Due : Quiet T → Result .Denot → SProp 𝓤

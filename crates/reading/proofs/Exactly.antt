@@ -13,8 +13,8 @@ use Rattle.answers.specs.Demand1.{Condition, Exactly}
 use Rattle.answers.proofs.Exactly.{Goes, none-left, one-more, one-unless, row-exactly, told-exactly}
 use Rattle.record.specs.declared.ResTableConfig.{ResTableConfig}
 use Rattle.record.specs.Ages.{isAge}
-use Rattle.reading.specs.Reading.{ParseOutcome, parseOf, parseAged, parseTook, parseRefused, amountOf, sizeOf, taken, ifWhole, ifAge}
-use Rattle.reading.specs.Demand1.{fewerThan16, fewerThanSize, notAnAge, AmountRefuses, ParseRefuses, AgedRefuses}
+use Rattle.reading.specs.Reading.{ParseOutcome, parseOf, parseAged, parseTook, parseRefused, takeOf, sizeOf, taken, ifWhole, ifAge}
+use Rattle.reading.specs.Demand1.{fewerThan16, fewerThanSize, notAnAge, TakeRefuses, ParseRefuses, AgedRefuses}
 use Rattle.reading.proofs.Whole.{whole-map, whole-took, age-known}
 
 -- 1 and 2 before a row, and 3
@@ -31,9 +31,9 @@ module _ {A : Type 0} {row : List Condition} {refuse : Refusal → A} {give o : 
 gives-exactly : {row : List Condition} {n : ℕ} {r : ResTableConfig} {o : ParseOutcome} → Goes row parseRefused (parseTook n r) o → Exactly row (o .tells)
 gives-exactly {n = n} {r = r} g = row-exactly (λ (o : ParseOutcome). o .tells) parseRefused (parseTook n r) (λ why. refl) refl g
 
--- `amount`: 1, 2
-pub amount-exactly : (s : List ℕ) → AmountRefuses s
-amount-exactly s = told-exactly (whole-row s none-left)
+-- `take`: 1, 2
+pub take-exactly : (s : List ℕ) → TakeRefuses s
+take-exactly s = told-exactly (whole-row s none-left)
 
 -- `parse`: 1, 2
 pub parse-exactly : (s : List ℕ) → ParseRefuses s
@@ -44,16 +44,16 @@ pub aged-exactly : (a : ℕ) (s : List ℕ) → AgedRefuses a s
 aged-exactly a s = gives-exactly (age-row a (whole-row s none-left))
 
 -- parsing succeeds exactly when T bytes are there
-pub success-exactly : (s : List ℕ) → (amountOf s .number ≡ 0) ↔ (taken s ≤ length s)
+pub success-exactly : (s : List ℕ) → (takeOf s .number ≡ 0) ↔ (taken s ≤ length s)
 success-exactly s = (
-  (λ e. let n = amount-exactly s .succeeds .0 e in omega (arith, ltb-false (length s) 16 (n .0), ltb-false (length s) (sizeOf s) (n .1 .0))),
+  (λ e. let n = take-exactly s .succeeds .0 e in omega (arith, ltb-false (length s) 16 (n .0), ltb-false (length s) (sizeOf s) (n .1 .0))),
   (λ h. ap (λ (t : Told). t .number) (whole-took s _ _ h)),
 )
 
--- `parse` tells what `amount` tells
-pub parse-tells : (s : List ℕ) → parseOf s .tells ≡ amountOf s
+-- `parse` tells what `take` tells
+pub parse-tells : (s : List ℕ) → parseOf s .tells ≡ takeOf s
 parse-tells s = whole-map (λ (o : ParseOutcome). o .tells) s _ _
 
 -- and so does `parse_aged` at an age
-pub aged-tells : (a : ℕ) (s : List ℕ) → true ≡ isAge a → parseAged a s .tells ≡ amountOf s
+pub aged-tells : (a : ℕ) (s : List ℕ) → true ≡ isAge a → parseAged a s .tells ≡ takeOf s
 aged-tells a s h = rw (age-known a _ _ h) (whole-map (λ (o : ParseOutcome). o .tells) s _ _)

@@ -7,7 +7,7 @@ use Rattle.answers.specs.declared.Refusal.{Refusal}
 use Rattle.answers.specs.Tells.{success, refusal}
 use Rattle.record.specs.Ages.{isAge}
 use Rattle.record.specs.Blank.{blankRecord}
-use Rattle.reading.specs.Reading.{reads, fieldBy, recordBy, plain, aged, ifWhole, ifAge, parseOf, parseAged, amountOf}
+use Rattle.reading.specs.Reading.{reads, fieldBy, recordBy, plain, aged, ifWhole, ifAge, parseOf, parseAged, takeOf}
 
 -- a record of the size that its first byte says, with the bytes of `middle` from offset 32 on and zeros up to there
 abbrev from32 : ℕ → List ℕ → List ℕ
@@ -25,7 +25,7 @@ pub examples :
     -- 1. fifteen zero bytes: 1; sixteen: taken, and nothing is in the record, although its size is 0
     (parseOf (replicate 15 0) .tells ≡ refusal Refusal.FewerThan16)
     × (parseOf (replicate 16 0) ≡ record { tells = success 16; gives = blankRecord })
-    × (amountOf (replicate 40 0) ≡ success 16)
+    × (takeOf (replicate 40 0) ≡ success 16)
     -- 2. size 17 in 16 bytes: 2; in 17: takes 17
     × (parseOf (17 ∷ replicate 15 0) ≡ record { tells = refusal Refusal.FewerThanSize; gives = blankRecord })
     × (parseOf (17 ∷ replicate 16 0) .tells ≡ success 17)

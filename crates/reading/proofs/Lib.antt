@@ -1,4 +1,3 @@
-pub mod Rows
 pub mod Records
 pub mod FieldBytes
 pub mod Limits

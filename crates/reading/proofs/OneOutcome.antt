@@ -19,9 +19,9 @@ one-parse r s p q =
     let e = p ∙ sym q in
     parsed-same (taken-one (r .answer) (s .answer) (ap (λ (z : ParseOutcome). z .tells) e)) (ap (λ (z : ParseOutcome). z .gives) e)
 
--- of `amount`: the answer is fixed
-pub one-amount : {t : Told} (r s : Taken) → takenTells r ≡ t → takenTells s ≡ t → r ≡ s
-one-amount r s p q = taken-one r s (p ∙ sym q)
+-- of `take`: the answer is fixed
+pub one-take : {t : Told} (r s : Taken) → takenTells r ≡ t → takenTells s ≡ t → r ≡ s
+one-take r s p q = taken-one r s (p ∙ sym q)
 
 -- of `lesser`: the answer is its definition's value at the input
 pub one-lesser : (a b r s : ℕ) → r ≡ min a b → s ≡ min a b → r ≡ s

@@ -1,4 +1,4 @@
--- When a record is whole, and what the answer of `amount` says of it. Assumes nothing.
+-- When a record is whole, and what the answer of `take` says of it. Assumes nothing.
 use Prim.Native.Nat.{ℕ, _≤_, _<_}
 use mathlib.Core.Path.{_≡_, refl, sym, ap, _∙_}
 use mathlib.Core.Bool.{Bool, true, false, cond}
@@ -13,7 +13,7 @@ use Rattle.answers.specs.declared.Told.{Told}
 use Rattle.answers.specs.Tells.{success, refusal}
 use Rattle.answers.proofs.OneToOne.{number-one, number-pos}
 use Rattle.record.specs.Ages.{isAge}
-use Rattle.reading.specs.Reading.{ifWhole, ifAge, sizeOf, taken, amountOf}
+use Rattle.reading.specs.Reading.{ifWhole, ifAge, sizeOf, taken, takeOf}
 
 -- what stands at the front of some bytes: too few for any record, a record that is cut, or one that is whole
 pub data Front (s : List ℕ) : Type 0 where
@@ -72,14 +72,14 @@ module _ {A : Type 0} (a : ℕ) (refuse : Refusal → A) (give : A) where
   age-unknown h = rw (← h)
 
 -- T bytes are there, and n is T
-pub took-is : (s : List ℕ) (n : ℕ) → n ≡ taken s → taken s ≤ length s → success n ≡ amountOf s
+pub took-is : (s : List ℕ) (n : ℕ) → n ≡ taken s → taken s ≤ length s → success n ≡ takeOf s
 took-is s n e h = ap success e ∙ sym (whole-took s _ _ h)
 
 told-number : {a b : Told} → a ≡ b → a .number ≡ b .number
 told-number e = ap (λ (t : Told). t .number) e
 
 -- an answer that took n bytes: they are T, and they are there
-pub took-says : (s : List ℕ) (n : ℕ) → success n ≡ amountOf s → (n ≡ taken s) × (taken s ≤ length s)
+pub took-says : (s : List ℕ) (n : ℕ) → success n ≡ takeOf s → (n ≡ taken s) × (taken s ≤ length s)
 took-says s n e =
     elim (front s) [
       | short h ↦ absurd (let z = told-number (e ∙ whole-short s _ _ h) in omega arith)
@@ -88,11 +88,11 @@ took-says s n e =
     ]
 
 -- an answer that took bytes: the record is whole
-pub took-whole : {A : Type 0} (s : List ℕ) (refuse : Refusal → A) (give : A) (n : ℕ) → success n ≡ amountOf s → ifWhole s refuse give ≡ give
+pub took-whole : {A : Type 0} (s : List ℕ) (refuse : Refusal → A) (give : A) (n : ℕ) → success n ≡ takeOf s → ifWhole s refuse give ≡ give
 took-whole s refuse give n e = whole-took s refuse give (took-says s n e .1)
 
 -- an answer that refused: the same refusal stands for every call
-pub refused-whole : {A : Type 0} (s : List ℕ) (refuse : Refusal → A) (give : A) (why : Refusal) → refusal why ≡ amountOf s → ifWhole s refuse give ≡ refuse why
+pub refused-whole : {A : Type 0} (s : List ℕ) (refuse : Refusal → A) (give : A) (why : Refusal) → refusal why ≡ takeOf s → ifWhole s refuse give ≡ refuse why
 refused-whole s refuse give why e =
     elim (front s) [
       | short h ↦ whole-short s refuse give h ∙ ap refuse (number-one Refusal.FewerThan16 why (sym (told-number (e ∙ whole-short s _ _ h))))
@@ -100,15 +100,15 @@ refused-whole s refuse give why e =
       | whole h ↦ absurd (let z = told-number (e ∙ whole-took s _ _ h) in omega (arith, number-pos why))
     ]
 
--- what `amount` answers: it takes n bytes, or it refuses
-pub data Amounts (s : List ℕ) : Type 0 where
-  takes : (n : ℕ) → success n ≡ amountOf s → Amounts s
-  refuses : (why : Refusal) → refusal why ≡ amountOf s → Amounts s
+-- what `take` answers: it takes n bytes, or it refuses
+pub data Taking (s : List ℕ) : Type 0 where
+  takes : (n : ℕ) → success n ≡ takeOf s → Taking s
+  refuses : (why : Refusal) → refusal why ≡ takeOf s → Taking s
 
-pub amounts : (s : List ℕ) → Amounts s
-amounts s =
+pub taking : (s : List ℕ) → Taking s
+taking s =
     elim (front s) [
-      | short h ↦ Amounts.refuses Refusal.FewerThan16 (sym (whole-short s _ _ h))
-      | cut h g ↦ Amounts.refuses Refusal.FewerThanSize (sym (whole-cut s _ _ h g))
-      | whole h ↦ Amounts.takes (taken s) (took-is s (taken s) refl h)
+      | short h ↦ Taking.refuses Refusal.FewerThan16 (sym (whole-short s _ _ h))
+      | cut h g ↦ Taking.refuses Refusal.FewerThanSize (sym (whole-cut s _ _ h g))
+      | whole h ↦ Taking.takes (taken s) (took-is s (taken s) refl h)
     ]

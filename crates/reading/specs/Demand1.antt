@@ -7,7 +7,7 @@ use lib.ListN.{length}
 use Rattle.answers.specs.declared.Refusal.{Refusal}
 use Rattle.answers.specs.Demand1.{Condition, Exactly}
 use Rattle.record.specs.Ages.{isAge}
-use Rattle.reading.specs.Reading.{sizeOf, parseOf, parseAged, amountOf}
+use Rattle.reading.specs.Reading.{sizeOf, parseOf, parseAged, takeOf}
 
 -- 1: fewer than 16 bytes
 abbrev pub fewerThan16 : List ℕ → Condition
@@ -21,9 +21,9 @@ fewerThanSize s = record { holds = ltb (length s) (sizeOf s); why = Refusal.Fewe
 abbrev pub notAnAge : ℕ → Condition
 notAnAge a = record { holds = not (isAge a); why = Refusal.NotAnAge }
 
--- `amount`: 1, 2
-abbrev pub AmountRefuses : List ℕ → Type 0
-AmountRefuses s = Exactly (fewerThan16 s ∷ fewerThanSize s ∷ []) (amountOf s)
+-- `take`: 1, 2
+abbrev pub TakeRefuses : List ℕ → Type 0
+TakeRefuses s = Exactly (fewerThan16 s ∷ fewerThanSize s ∷ []) (takeOf s)
 
 -- `parse`: 1, 2
 abbrev pub ParseRefuses : List ℕ → Type 0

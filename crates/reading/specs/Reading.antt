@@ -103,5 +103,5 @@ abbrev pub parseAged : ℕ → List ℕ → ParseOutcome
 parseAged a s = ifAge a parseRefused (ifWhole s parseRefused (parseTook (taken s) (aged a s)))
 
 -- how many bytes parsing takes, or its refusal
-abbrev pub amountOf : List ℕ → Told
-amountOf s = ifWhole s refusal (success (taken s))
+abbrev pub takeOf : List ℕ → Told
+takeOf s = ifWhole s refusal (success (taken s))

@@ -17,7 +17,7 @@ fn wide(x: u8) -> u32
     x as u32
 }
 
-// The little-endian word at a place.
+// The little-endian word at an offset.
 pub(crate) fn word(bytes: &[u8], at: usize) -> u32
     requires { ⌜ at + 4 ≤ length (now bytes) ⌝ }
     ensures { λ r. ⌜ r ≡ le (part (now (bytes .entry)) at 4) ⌝ }

@@ -9,7 +9,7 @@ use record::blank;
 ghost use mathlib.Core.Path.{_≡_};
 ghost use Prim.Native.Nat.{min};
 ghost use Rattle.answers.specs.Tells.{takenTells};
-ghost use Rattle.reading.specs.Reading.{aged, amountOf, ifWhole, parseAged, parseOf, parseRefused, parseTook, parsedOutcome, readTo, taken};
+ghost use Rattle.reading.specs.Reading.{aged, takeOf, ifWhole, parseAged, parseOf, parseRefused, parseTook, parsedOutcome, readTo, taken};
 
 // The answer of parsing, beside the record, which holds nothing where the answer is a refusal.
 pub struct Parsed {
@@ -18,8 +18,8 @@ pub struct Parsed {
 }
 
 // How many bytes the record at the front of bytes takes.
-pub fn amount(bytes: &[u8]) -> Taken
-    ensures { λ r. ⌜ takenTells r ≡ amountOf (now (bytes .entry)) ⌝ }
+pub fn take(bytes: &[u8]) -> Taken
+    ensures { λ r. ⌜ takenTells r ≡ takeOf (now (bytes .entry)) ⌝ }
 {
     if bytes.len() < 16 {
         return Taken::Refused(Refusal::FewerThan16);
@@ -65,7 +65,7 @@ fn refuse(why: Refusal) -> Parsed
 fn parse_to(bytes: &[u8], age: usize) -> Parsed
     ensures { λ r. ⌜ parsedOutcome r ≡ ifWhole (now (bytes .entry)) parseRefused (parseTook (taken (now (bytes .entry))) (aged age (now (bytes .entry)))) ⌝ }
 {
-    match amount(bytes) {
+    match take(bytes) {
         Taken::Took(n) => {
             let record = fields::record_to(bytes, lesser(n, age));
             Parsed {

@@ -13,7 +13,7 @@ each-byte [] h i = omega arith
 each-byte (b ∷ s) h zero = h .0
 each-byte (b ∷ s) h (suc i) = each-byte s (h .1) i
 
--- the element at each place is a byte; past the end a list gives 0
+-- the element at each offset is a byte; past the end a list gives 0
 pub placed : (s : List ℕ) → ((i : ℕ) → i < length s → getD s i 0 < 256) → Bytes s
 placed s f i =
     elim (decLt i (length s)) [

@@ -29,7 +29,7 @@ endOf f = getD ends f 0
 abbrev pub widthOf : ℕ → ℕ
 widthOf f = endOf f - startOf f
 
--- n of the bytes s, from place a on
+-- n of the bytes s, from offset a on
 abbrev pub part : List ℕ → ℕ → ℕ → List ℕ
 part s a n = take n (drop a s)
 

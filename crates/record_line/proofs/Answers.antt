@@ -11,7 +11,7 @@ use Rattle.buffer.specs.Written.{Outcome, written}
 use Rattle.record.specs.declared.ResTableConfig.{ResTableConfig}
 use Rattle.record.specs.Ages.{isAge}
 use Rattle.record.proofs.Twelve.{age-bounds}
-use Rattle.reading.specs.Reading.{amountOf, reads, fieldBy, recordBy, aged, sizeOf, taken}
+use Rattle.reading.specs.Reading.{takeOf, reads, fieldBy, recordBy, aged, sizeOf, taken}
 use Rattle.reading.proofs.Limits.{read-aged}
 use Rattle.reading.proofs.Whole.{took-says}
 use Rattle.marking.specs.Marks.{lateBytes, heldBack, marksOf, lettersIn}
@@ -31,7 +31,7 @@ module _ (a : ℕ) (s : List ℕ) (known : true ≡ isAge a) where
   line-is i p t e whole = rw (read-aged a t s e whole, size-is, e)
 
   -- so a call for the line comes to what its writing does
-  pub line-written : (i p t : ℕ) (old : List ℕ) (o : Outcome) → success t ≡ amountOf s → o ≡ written (lineIn a t i p s) old → o ≡ recordLineOf a i p s old
+  pub line-written : (i p t : ℕ) (old : List ℕ) (o : Outcome) → success t ≡ takeOf s → o ≡ written (lineIn a t i p s) old → o ≡ recordLineOf a i p s old
   line-written i p t old o e w =
       let h = took-says s t e in
       w ∙ ap (λ (l : List ℕ). written l old) (line-is i p t (h .0) (h .1)) ∙ sym (gives a s _ _ known t e)

@@ -8,7 +8,7 @@ use lib.Dec.{eqb}
 use lib.ListN.{length, getD, take, length-append}
 use lib.Seq.{take-suc, take-all}
 use borrow.Author.Tests.{le-leb, lt-leb}
-use Rattle.answers.proofs.Says.{chosen}
+use Rattle.laws.proofs.Choice.{chosen}
 use Rattle.buffer.specs.Ascii.{ascii}
 use Rattle.buffer.specs.Put.{Put}
 use Rattle.buffer.proofs.Putting.{put-put, front-ends, front-take}

@@ -7,12 +7,12 @@ use native.Mathlib.Omega.{arith}
 use native.Mathlib.Decide.{decLt, ℕ-discrete}
 use lib.Dec.{T, eqb}
 use lib.ListN.{List·getD-eq-default}
-use borrow.Author.Tests.{lt-ltb, le-ltb, eq-eqb, ne-eqb}
-use Rattle.answers.proofs.Says.{chosen}
+use borrow.Author.Tests.{not-true, eqb-false, lt-ltb, le-ltb, eq-eqb, ne-eqb}
+use Rattle.laws.proofs.Choice.{chosen}
+use Rattle.laws.proofs.Below.{in-row}
 use Rattle.buffer.specs.Ascii.{ascii}
 use Rattle.buffer.specs.Decimal.{digits, decimal}
 use Rattle.reading.specs.Reading.{aged, sizeOf, taken}
-use Rattle.reading.proofs.Rows.{in-row}
 use Rattle.marking.specs.Marks.{heldBack, letterOf, markIn, lettersIn}
 use Rattle.marking.specs.declared.Mark.{Mark}
 use Rattle.places.specs.Places.{textOf}
@@ -76,11 +76,9 @@ marks a t s = marked a t s (1 ∷ 2 ∷ 3 ∷ 4 ∷ 5 ∷ 6 ∷ 7 ∷ 8 ∷ 9 �
 digit : (n : ℕ) → hexDigit n ≡ 10 → ⊥
 digit n e =
     elim (decLt n 16) [
-      | yes h ↦ test (hexDigit n) (in-row (λ m. not (eqb (hexDigit m) 10)) 16 tt n h) e
+      | yes h ↦ eqb-false (hexDigit n) 10 (not-true _ (in-row 16 (λ m. not (eqb (hexDigit m) 10)) tt n h)) e
       | no h ↦ let z = List·getD-eq-default hexDigits 0 {n = n} (omega arith) in omega arith
-    ] where
-      test : (d : ℕ) → T (not (eqb d 10)) → d ≡ 10 → ⊥
-      test d t z = rw z at t
+    ]
 
 shown-byte : (b : ℕ) → Unbroken (escaped b)
 shown-byte b =

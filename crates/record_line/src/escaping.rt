@@ -27,14 +27,14 @@ fn put_shown_byte(b: u8, at: usize, out: &mut [u8]) -> usize
     ensures { λ r. ⌜ Put (now (out .entry)) at (escaped b) (now (out .exit)) r ⌝ }
 {
     if is_visible(b) {
-        return put_byte(out, at, b);
+        return put_byte(b, at, out);
     }
     let digits = b"0123456789ABCDEF";
     let high = (b / 16) as usize;
     let low = (b % 16) as usize;
-    let sign = put_byte(out, at, b'%');
-    let first = put_byte(out, sign, digits[high]);
-    put_byte(out, first, digits[low])
+    let sign = put_byte(b'%', at, out);
+    let first = put_byte(digits[high], sign, out);
+    put_byte(digits[low], first, out)
 }
 
 // Puts the bytes of a text.
@@ -55,9 +55,9 @@ pub fn put_shown(r: ResTableConfig, at: usize, out: &mut [u8]) -> usize
     ensures { λ n. ⌜ Put (now (out .entry)) at (shownWords (textOf r)) (now (out .exit)) n ⌝ }
 {
     let mut own = [0u8; LONGEST_TEXT];
-    let n = put_text(&mut own, r);
+    let n = put_text(r, &mut own);
     if n == 0 {
-        return put(out, at, b"%-");
+        return put(b"%-", at, out);
     }
     put_escaped(&own[..n], at, out)
 }

@@ -11,9 +11,9 @@ use buffer::write;
 use escaping::put_shown;
 use marking::late_bytes;
 use marking::put_marks;
-use reading::amount;
 use reading::lesser;
 use reading::read_to;
+use reading::take;
 use record::Age;
 use record::ResTableConfig;
 ghost use mathlib.Core.Path.{_≡_};
@@ -32,12 +32,12 @@ pub const LONGEST_LINE: usize = 1101;
 fn put_numbers(index: usize, offset: usize, size: u32, out: &mut [u8]) -> usize
     ensures { λ r. ⌜ Put (now (out .entry)) 0 (decimal index ++ space ++ decimal offset ++ space ++ decimal size ++ space) (now (out .exit)) r ⌝ }
 {
-    let a = put_decimal(out, 0, index as u64);
-    let b = put_byte(out, a, b' ');
-    let c = put_decimal(out, b, offset as u64);
-    let d = put_byte(out, c, b' ');
-    let e = put_decimal(out, d, size as u64);
-    put_byte(out, e, b' ')
+    let a = put_decimal(index as u64, 0, out);
+    let b = put_byte(b' ', a, out);
+    let c = put_decimal(offset as u64, b, out);
+    let d = put_byte(b' ', c, out);
+    let e = put_decimal(size as u64, d, out);
+    put_byte(b' ', e, out)
 }
 
 // Puts the text of a record, or "%!" where one of its t bytes at the age or later isn't zero.
@@ -52,7 +52,7 @@ fn put_unless_held(
     ensures { λ n. ⌜ Put (now (out .entry)) at (shownUnless (lateBytes (now (bytes .entry)) t age) (textOf r)) (now (out .exit)) n ⌝ }
 {
     if late_bytes(bytes, t, age) {
-        put(out, at, b"%!")
+        put(b"%!", at, out)
     } else {
         put_shown(r, at, out)
     }
@@ -72,9 +72,9 @@ fn put_line(
     let r = read_to(bytes, lesser(t, age));
     let a = put_numbers(index, offset, r.size, out);
     let b = put_marks(bytes, t, age, a, out);
-    let c = put_byte(out, b, b' ');
+    let c = put_byte(b' ', b, out);
     let d = put_unless_held(bytes, t, age, r, c, out);
-    put_byte(out, d, b'\n')
+    put_byte(b'\n', d, out)
 }
 
 // Writes the line of a record of t bytes at the front of bytes, for a caller who knows that it is whole and that the age is one of
@@ -95,7 +95,7 @@ pub fn write_line(
     }
     let mut own = [0u8; LONGEST_LINE];
     let n = put_line(bytes, t, age.0 as usize, index, offset, &mut own);
-    write(out, &own[..n])
+    write(&own[..n], out)
 }
 
 // Writes the line of the record at the front of bytes, for a reader of an age, as the record of an index at an offset.
@@ -105,7 +105,7 @@ pub fn record_line(bytes: &[u8], age: Age, index: usize, offset: usize, out: &mu
     if !age.is_age() {
         return Written::Refused(Refusal::NotAnAge);
     }
-    match amount(bytes) {
+    match take(bytes) {
         Taken::Took(t) => write_line(bytes, t, age, index, offset, out),
         Taken::Refused(why) => Written::Refused(why),
     }

@@ -10,8 +10,8 @@ use Rattle.buffer.specs.Written.{Outcome, outcome}
 use Rattle.order.specs.declared.Ordering.{Ordering}
 use Rattle.order.specs.Order.{orderOf, orderingTells}
 use Rattle.reading.specs.declared.Parsed.{Parsed}
-use Rattle.reading.specs.Reading.{ParseOutcome, parsedOutcome, parseOf, amountOf, ifWhole, plain, taken}
-use Rattle.reading.proofs.Whole.{amounts, takes, refuses, whole-took, refused-whole}
+use Rattle.reading.specs.Reading.{ParseOutcome, parsedOutcome, parseOf, takeOf, ifWhole, plain, taken}
+use Rattle.reading.proofs.Whole.{taking, takes, refuses, whole-took, refused-whole}
 use Rattle.reading.proofs.Exactly.{parse-tells, success-exactly}
 use Rattle.res_table_config.specs.Face.{answerTells, answerOutcome, orderTold}
 use Rattle.res_table_config.proofs.Packing.{amount-tells}
@@ -32,13 +32,13 @@ module _ (w : Written) (new : List ℕ) (o : Outcome) (t : Told) (e : outcome w 
 
 -- a parse that tells t
 module _ (s : List ℕ) (p : Parsed) (t : Told) (e : parsedOutcome p ≡ parseOf s) (f : t ≡ takenTells (p .answer)) where
-  tells-is : t ≡ amountOf s
+  tells-is : t ≡ takeOf s
   tells-is = f ∙ ap (λ (o : ParseOutcome). o .tells) e ∙ parse-tells s
 
   -- it was refused: the same is told by every call, whatever a whole record gives
   pub refused-told : (give : Told) → (t .number ≡ 0 → ⊥) → t ≡ ifWhole s refusal give
   refused-told give d =
-      elim (amounts s) [
+      elim (taking s) [
         | takes n e ↦ absurd (d (ap (λ (u : Told). u .number) (tells-is ∙ sym e)))
         | refuses why e ↦ tells-is ∙ sym e ∙ sym (refused-whole s _ _ why e)
       ]

@@ -15,8 +15,8 @@ use Rattle.order.specs.declared.Ordering.{Ordering}
 use Rattle.record.specs.Ages.{isAge}
 use Rattle.order.specs.Order.{orderOf, orderingTells}
 use Rattle.record.specs.Table.{Bytes}
-use Rattle.reading.specs.Reading.{ifWhole, ifAge, amountOf, plain, aged, taken}
-use Rattle.reading.proofs.Whole.{amounts, takes, refuses, took-says, took-whole, refused-whole}
+use Rattle.reading.specs.Reading.{ifWhole, ifAge, takeOf, plain, aged, taken}
+use Rattle.reading.proofs.Whole.{taking, takes, refuses, took-says, took-whole, refused-whole}
 use Rattle.marking.specs.Marks.{marksOf, marksOutcome, heldBack}
 use Rattle.marking.proofs.Marking.{marks-length}
 use Rattle.places.specs.Places.{textOf}
@@ -35,7 +35,7 @@ success-small n h = record { number = lit< tt; amount = h; bare = λ d. absurd (
 module _ {A : Type 0} (P : A → Type 0) (refuse : Refusal → A) (give : A) (bad : (why : Refusal) → P (refuse why)) where
   by-whole : (s : List ℕ) → (taken s ≤ length s → P give) → P (ifWhole s refuse give)
   by-whole s good =
-      elim (amounts s) [
+      elim (taking s) [
         | takes n e ↦ rw (took-whole s refuse give n e) (good (took-says s n e .1))
         | refuses why e ↦ rw (refused-whole s refuse give why e) (bad why)
       ]
@@ -54,7 +54,7 @@ written-small w old h =
     chosen Tells (leb (length w) (length old)) (success-small (length w) h) (refusal-small Refusal.ShortBuffer)
 
 -- of taking: size is a word of 32 bits
-pub take-small : (s : List ℕ) → Bytes s → Small (amountOf s)
+pub take-small : (s : List ℕ) → Bytes s → Small (takeOf s)
 take-small s bytes =
     by-whole Small _ _ refusal-small s
     (λ whole. success-small (taken s) (omega (arith, part-below 4 0 s bytes)))

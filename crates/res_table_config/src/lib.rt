@@ -5,15 +5,15 @@
 use answers::Told;
 use marking::marks;
 use order::cmp;
-use reading::amount;
 use reading::parse;
+use reading::take;
 use record::Age;
 use text::aged_text;
 use text::plain_text;
 ghost use mathlib.Core.Path.{_≡_};
 ghost use Prim.Native.Nat.{_<_};
 ghost use Rattle.marking.specs.Marks.{marksOutcome};
-ghost use Rattle.reading.specs.Reading.{amountOf};
+ghost use Rattle.reading.specs.Reading.{takeOf};
 ghost use Rattle.record.specs.Table.{Bytes};
 ghost use Rattle.text.specs.Text.{agedText, plainText};
 ghost use Rattle.res_table_config.specs.Face.{answerOutcome, answerTells, orderTold};
@@ -34,10 +34,10 @@ fn packed(told: Told) -> u64
 // How many bytes the record at the front of bytes takes.
 #[no_mangle]
 pub extern "C" fn res_table_config_take(bytes: &[u8]) -> u64
-    ensures { λ r. ⌜ answerTells r ≡ amountOf (now (bytes .entry)) ⌝ }
+    ensures { λ r. ⌜ answerTells r ≡ takeOf (now (bytes .entry)) ⌝ }
 {
     are_bytes(bytes);
-    let answer = amount(bytes);
+    let answer = take(bytes);
     packed(answer.told())
 }
 

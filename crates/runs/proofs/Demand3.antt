@@ -35,7 +35,7 @@ of-record s q a b x y rising older newer even whole =
 pub demand-3 : Demand3
 demand-3 s p a b x y rising older newer even =
     record {
-      places = finds-are a s (sym older) p ∙ sym (finds-are b s (sym newer) p);
+      offsets = finds-are a s (sym older) p ∙ sym (finds-are b s (sym newer) p);
       stop = stands-are a s (sym older) p ∙ sym (stands-are b s (sym newer) p);
       stopped = (
         last-tells a s (sym older) p ∙ ap (λ (q : ℕ). stopTells (stopAt (frontAt s) q)) (sym (stands-are a s (sym older) p)),

@@ -12,8 +12,8 @@ use Rattle.answers.specs.Tells.{success, refusal}
 use Rattle.record.specs.declared.ResTableConfig.{ResTableConfig}
 use Rattle.record.specs.Ages.{isAge}
 use Rattle.record.specs.Blank.{blankRecord}
-use Rattle.reading.specs.Reading.{amountOf, taken, aged, ifWhole}
-use Rattle.reading.proofs.Whole.{amounts, takes, refuses, age-known, age-unknown, took-says, took-whole, refused-whole, whole-short, took-is}
+use Rattle.reading.specs.Reading.{takeOf, taken, aged, ifWhole}
+use Rattle.reading.proofs.Whole.{taking, takes, refuses, age-known, age-unknown, took-says, took-whole, refused-whole, whole-short, took-is}
 use Rattle.runs.specs.declared.Stop.{Stop}
 use Rattle.runs.specs.declared.Front.{Front}
 use Rattle.runs.specs.Fronts.{StepOutcome, stopTells, stopAt, stepBy, finds, found}
@@ -34,15 +34,15 @@ module _ (s : List ℕ) (p : ℕ) where
     front-inside = rw (ne-eqb p (length s) inside)
 
     -- no whole record
-    pub front-refused : (why : Refusal) → refusal why ≡ amountOf (drop p s) → frontAt s p ≡ Front.Stops (Stop.Refused why)
+    pub front-refused : (why : Refusal) → refusal why ≡ takeOf (drop p s) → frontAt s p ≡ Front.Stops (Stop.Refused why)
     front-refused why e = front-inside ∙ refused-whole (drop p s) _ _ why e
 
     -- a whole record
-    pub front-took : (n : ℕ) → success n ≡ amountOf (drop p s) → frontAt s p ≡ Front.Takes n
+    pub front-took : (n : ℕ) → success n ≡ takeOf (drop p s) → frontAt s p ≡ Front.Takes n
     front-took n e = front-inside ∙ took-whole (drop p s) _ _ n e ∙ ap Front.Takes (sym (took-says (drop p s) n e .0))
 
   -- a whole record stands before the end
-  not-end : (n : ℕ) → success n ≡ amountOf (drop p s) → p ≡ length s → ⊥
+  not-end : (n : ℕ) → success n ≡ takeOf (drop p s) → p ≡ length s → ⊥
   not-end n e h = let t = took-says (drop p s) n e in omega (arith, t, length-drop p s)
 
   -- a whole record, wherever it stands
@@ -68,13 +68,13 @@ unfolding bytes-of
 not-both stop n e = let z = ap bytes-of e in omega arith
 
 -- what takes n bytes is a whole record
-pub front-says : (s : List ℕ) (p n : ℕ) → frontAt s p ≡ Front.Takes n → success n ≡ amountOf (drop p s)
+pub front-says : (s : List ℕ) (p n : ℕ) → frontAt s p ≡ Front.Takes n → success n ≡ takeOf (drop p s)
 front-says s p n e = by (eqb p (length s)) refl where
-  by : (b : Bool) → eqb p (length s) ≡ b → success n ≡ amountOf (drop p s)
+  by : (b : Bool) → eqb p (length s) ≡ b → success n ≡ takeOf (drop p s)
   by true t = absurd (not-both _ n (sym (front-ended s p (eqb-true p (length s) t)) ∙ e))
   by false t =
       let inside = eqb-false p (length s) t in
-      elim (amounts (drop p s)) [
+      elim (taking (drop p s)) [
         | takes m h ↦ ap success (takes-one n m (sym e ∙ front-took s p inside m h)) ∙ h
         | refuses why h ↦ absurd (not-both _ n (sym (front-refused s p inside why h) ∙ e))
       ]
@@ -92,7 +92,7 @@ front-within s p n e = let t = front-fits s p n e in (t .2, t .3)
 -- where a run stops no whole record stands
 pub front-none : (s : List ℕ) (p : ℕ) (stop : Stop) → frontAt s p ≡ Front.Stops stop → NotWhole (drop p s)
 front-none s p stop e =
-    elim (amounts (drop p s)) [
+    elim (taking (drop p s)) [
       | takes n h ↦ absurd (let t = took-says (drop p s) n h in not-both stop _ (sym e ∙ front-whole s p (t .1)))
       | refuses why h ↦ record { why = why; refused = h }
     ]

@@ -15,12 +15,12 @@ use Rattle.reading.specs.Reading.{ParseOutcome, parseOf, plain, aged, taken}
 use Rattle.reading.proofs.Whole.{whole-took, age-known}
 use Rattle.marking.specs.Marks.{marksOutcome, letterOf, marksOf, markOf, heldBack}
 use Rattle.marking.proofs.Marking.{marks-length, mark-at}
-use Rattle.marking.proofs.TwoAges.{same-mark, shown-later}
-use Rattle.marking.proofs.HeldBack.{held-exactly, shown-zero}
+use Rattle.marking.proofs.TwoAges.{same-mark, unheld-later}
+use Rattle.marking.proofs.HeldBack.{held-exactly, unheld-zero}
 use Rattle.places.specs.Places.{textOf}
 use Rattle.text.specs.Text.{plainText, agedText}
 use Rattle.text.proofs.Exactly.{aged-exactly}
-use Rattle.text.proofs.Same.{shown-text}
+use Rattle.text.proofs.Same.{unheld-text}
 use Rattle.record.specs.declared.ResTableConfig.{ResTableConfig}
 use Rattle.runs.specs.Fronts.{StepOutcome}
 use Rattle.runs.specs.Runs.{stepOf}
@@ -43,7 +43,7 @@ module _ (t : List ℕ) (whole : taken t ≤ length t) where
 
     -- one that isn't held back is written as the plain text
     shown-is : (old : List ℕ) → heldBack a t ≡ false → agedText a t old ≡ written (textOf (plain t)) old
-    shown-is old e = text-by old false e ∙ ap (λ (w : List ℕ). written w old) (shown-text a t age whole e)
+    shown-is old e = text-by old false e ∙ ap (λ (w : List ℕ). written w old) (unheld-text a t age whole e)
 
     -- the mark of field f where it is written
     mark-left : (old : List ℕ) → 14 ≤ length old → (f : ℕ) → 1 ≤ f → f ≤ 14 → getD (marksOutcome a t old .leaves) (f - 1) 0 ≡ letterOf (markOf a t f)
@@ -58,7 +58,7 @@ module _ (t : List ℕ) (whole : taken t ≤ length t) where
     shows-fits old e =
         let n = aged-exactly a t old .exactly .succeeds .0 e in
         let h : heldBack a t ≡ false = n .1 .1 .1 .0 in
-        (h, rw (shown-text a t age whole h) at (ltb-false (length old) (length (textOf (aged a t))) (n .1 .1 .1 .1 .0)))
+        (h, rw (unheld-text a t age whole h) at (ltb-false (length old) (length (textOf (aged a t))) (n .1 .1 .1 .1 .0)))
 
     -- a text that isn't held back and fits is written
     fits-wrote : (old : List ℕ) → heldBack a t ≡ false → length (textOf (plain t)) ≤ length old → agedText a t old ≡ wrote (textOf (plain t)) old
@@ -67,11 +67,11 @@ module _ (t : List ℕ) (whole : taken t ≤ length t) where
     zero-shown : ZeroFrom a t → heldBack a t ≡ false
     zero-shown z = by (heldBack a t) refl where
       by : (b : Bool) → heldBack a t ≡ b → heldBack a t ≡ false
-      by true h = absurd (let w = held-exactly a t .0 h in w .found (z (w .place) (w .late) (w .within)))
+      by true h = absurd (let w = held-exactly a t .0 h in w .found (z (w .offset) (w .late) (w .within)))
       by false h = h
 
     pub shows-zero : (old : List ℕ) → Shows (agedText a t old) → ZeroFrom a t × (length (textOf (plain t)) ≤ length old)
-    shows-zero old e = let f = shows-fits old e in (shown-zero a t (f .0), f .1)
+    shows-zero old e = let f = shows-fits old e in (unheld-zero a t (f .0), f .1)
 
     pub zero-shows : (old : List ℕ) → ZeroFrom a t → length (textOf (plain t)) ≤ length old → Shows (agedText a t old)
     zero-shows old z l = rw (fits-wrote old (zero-shown z) l)
@@ -85,7 +85,7 @@ module _ (t : List ℕ) (whole : taken t ≤ length t) where
 
     -- for a byte that isn't zero it is refused
     pub byte-refuses : (old : List ℕ) (k : ℕ) → a ≤ k → k < taken t → (getD t k 0 ≡ 0 → ⊥) → agedText a t old ≡ refused Refusal.HeldBack old
-    byte-refuses old k l m z = text-by old true (held-exactly a t .1 (record { place = k; late = l; within = m; found = z }))
+    byte-refuses old k l m z = text-by old true (held-exactly a t .1 (record { offset = k; late = l; within = m; found = z }))
 
   -- readers of two ages
   module _ (a b : ℕ) (rising : a ≤ b) (older : isAge a ≡ true) (newer : isAge b ≡ true) where
@@ -97,7 +97,7 @@ module _ (t : List ℕ) (whole : taken t ≤ length t) where
     pub newer-shows : (x y : List ℕ) → length x ≡ length y → Shows (agedText a t x) → agedText b t y ≡ wrote (textOf (plain t)) y
     newer-shows x y e s =
         let f = shows-fits a older x s in
-        fits-wrote b newer y (shown-later a b t rising (f .0)) (omega (arith, f .1))
+        fits-wrote b newer y (unheld-later a b t rising (f .0)) (omega (arith, f .1))
 
 -- the record that a step gives where a whole record stands
 pub step-gives : (a : ℕ) (s : List ℕ) (p : ℕ) → isAge a ≡ true → taken (drop p s) ≤ length (drop p s) → stepOf a s p .gives ≡ aged a (drop p s)

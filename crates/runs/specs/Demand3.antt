@@ -45,7 +45,7 @@ pub record OfRecord (s : List ℕ) (q older newer : ℕ) (x y : List ℕ) : Type
 -- what it says of the run of s that begins at p
 pub record OfRun (s : List ℕ) (p older newer : ℕ) (x y : List ℕ) : Type 0 where
   -- Both readers find the same records at the same places,
-  pub places : findsOf older s p ≡ findsOf newer s p
+  pub offsets : findsOf older s p ≡ findsOf newer s p
   -- and stop at the same byte
   pub stop : standsOf older s p ≡ standsOf newer s p
   -- (each has stopped there: its next step finds no record, and tells why the run stops)

@@ -5,13 +5,13 @@ use mathlib.Core.List.{List}
 use lib.ListN.{length, getD, drop}
 use Rattle.answers.specs.declared.Refusal.{Refusal}
 use Rattle.answers.specs.Tells.{refusal}
-use Rattle.reading.specs.Reading.{amountOf, taken}
+use Rattle.reading.specs.Reading.{takeOf, taken}
 use Rattle.runs.specs.Runs.{offsetsOf, stopOf}
 
 -- no whole record stands at the front of t
 pub record NotWhole (t : List ℕ) : Type 0 where
   pub why : Refusal
-  pub refused : refusal why ≡ amountOf t
+  pub refused : refusal why ≡ takeOf t
 
 -- of the run of s that begins at p: a whole record stands at each of its offsets, none where it stops, and it has at most one
 -- record for each 16 of the bytes there

@@ -4,9 +4,9 @@ use answers::Taken;
 use answers::Told;
 use answers::Written;
 use marking::marks;
-use reading::amount;
 use reading::lesser;
 use reading::read_to;
+use reading::take;
 use record::Age;
 use record::ResTableConfig;
 use record::blank;
@@ -95,7 +95,7 @@ pub fn front_at(bytes: &[u8], offset: usize) -> Front
         return Front::Stops(Stop::Ended);
     }
     let from = lesser(offset, bytes.len());
-    match amount(&bytes[from..]) {
+    match take(&bytes[from..]) {
         Taken::Took(n) => Front::Takes(n),
         Taken::Refused(why) => Front::Stops(Stop::Refused(why)),
     }

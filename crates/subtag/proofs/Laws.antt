@@ -93,7 +93,7 @@ module _ {old : List ℕ} {at : ℕ} {s : List ℕ} {f : Front} {n : ℕ} {new :
   pub fronted-ill : f ≡ Front.IllFormed n → Put old at replacement new r → Fronted old at s new r n
   fronted-ill q p = let w = sym e ∙ q in record { puts = rw w p; takes = rw w }
 
--- what is still to be put behind place i, put, completes all of s
+-- what is still to be put behind offset i, put, completes all of s
 abbrev pub Completes : List ℕ → ℕ → List ℕ → List ℕ → ℕ → ℕ → Type 0
 Completes old at s now o i = (new : List ℕ) (r : ℕ) → Put now o (replaced (drop i s)) new r → Put old at (replaced s) new r
 

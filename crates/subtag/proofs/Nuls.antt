@@ -22,7 +22,7 @@ unfolding dropNuls keep
 other-last [] x h = rw (ne-eqb x 0 h)
 other-last (b ∷ l) x h = ap (keep b) (other-last l x h) ∙ kept b x l
 
--- a NUL before the place n: it goes
+-- a NUL before the offset n: it goes
 pub one-less : (s : List ℕ) (n m : ℕ) → n ≡ suc m → m < length s → getD s m 0 ≡ 0 → dropNuls (take n s) ≡ dropNuls (take m s)
 one-less s n m e h z = rw (e, take-suc s m 0, z, nul-last)
 

@@ -25,7 +25,7 @@ module _ (s : List ℕ) {f : Front} {n : ℕ} (e : f ≡ frontOf s) where
   pub measured-ill : f ≡ Front.IllFormed n → Measured s 3 n
   measured-ill q = let w = sym e ∙ q in record { long = rw w; takes = rw w }
 
--- a front of what is left behind place i: what it becomes and has, and what is left then
+-- a front of what is left behind offset i: what it becomes and has, and what is left then
 module _ (s : List ℕ) {i becomes taken : ℕ} (h : i < length s) (m : Measured (take (length s - i) (drop i s)) becomes taken) where
   here : Measured (drop i s) becomes taken
   here = rw (rest-is s i) at m

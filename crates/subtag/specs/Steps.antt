@@ -7,7 +7,7 @@ use Rattle.buffer.specs.Put.{Put}
 use Rattle.subtag.specs.Utf8.{frontOf}
 use Rattle.subtag.specs.Subtag.{pieceOf, frontSize}
 
--- a writer that found the buffer old has put at place at what the front of s becomes, and taken the front: it leaves new and stops at r
+-- a writer that found the buffer old has put at offset at what the front of s becomes, and taken the front: it leaves new and stops at r
 pub record Fronted (old : List ℕ) (at : ℕ) (s : List ℕ) (new : List ℕ) (r taken : ℕ) : Type 0 where
   pub puts : Put old at (pieceOf (frontOf s) s) new r
   pub takes : taken ≡ frontSize (frontOf s)

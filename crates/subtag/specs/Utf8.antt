@@ -30,11 +30,11 @@ abbrev pub rowOf : List (ℕ × ℕ × List (ℕ × ℕ)) → ℕ → Option (Li
 rowOf [] b = none
 rowOf (r ∷ rs) b = cond (within (r .0) (r .1) b) (some (r .2)) (rowOf rs b)
 
--- whether s has a byte at place i, and it is from lo to hi
+-- whether s has a byte at offset i, and it is from lo to hi
 unfoldable pub okAt : List ℕ → ℕ → ℕ → ℕ → Bool
 okAt s i lo hi = ltb i (length s) && within lo hi (getD s i 0)
 
--- how many bytes of s from place i on are in the ranges, one after the other
+-- how many bytes of s from offset i on are in the ranges, one after the other
 abbrev pub matched : List (ℕ × ℕ) → List ℕ → ℕ → ℕ
 matched [] s i = 0
 matched (r ∷ rs) s i = cond (okAt s i (r .0) (r .1)) (suc (matched rs s (suc i))) 0

@@ -15,37 +15,37 @@ ghost use Rattle.buffer.specs.Written.{outcome, written};
 ghost use Rattle.subtag.specs.Subtag.{replaced, dropNuls, subtagOf};
 ghost use Rattle.subtag.specs.Steps.{Fronted, Measured};
 
-// A writer's next place, and how many bytes of its source it has taken.
+// A writer's next offset, and how many bytes of its source it has taken.
 struct Moved {
     at: usize,
     taken: usize,
 }
 
 // Puts what the front of src becomes.
-fn put_front(out: &mut [u8], at: usize, src: &[u8]) -> Moved
+fn put_front(src: &[u8], at: usize, out: &mut [u8]) -> Moved
     requires { ⌜ 0 < length (now src) ⌝ }
     ensures { λ r. ⌜ Fronted (now (out .entry)) at (now (src .entry)) (now (out .exit)) (r .at) (r .taken) ⌝ }
 {
     match first(src) {
         Front::WellFormed(n) => Moved {
-            at: put(out, at, &src[..n]),
+            at: put(&src[..n], at, out),
             taken: n,
         },
         Front::IllFormed(n) => Moved {
-            at: put(out, at, b"\xef\xbf\xbd"),
+            at: put(b"\xef\xbf\xbd", at, out),
             taken: n,
         },
     }
 }
 
 // Puts src with each maximal ill-formed subpart replaced by EF BF BD.
-fn put_replaced(out: &mut [u8], at: usize, src: &[u8]) -> usize
+fn put_replaced(src: &[u8], at: usize, out: &mut [u8]) -> usize
     ensures { λ r. ⌜ Put (now (out .entry)) at (replaced (now (src .entry))) (now (out .exit)) r ⌝ }
 {
     let mut o = at;
     let mut i = 0;
     while i < src.len() {
-        let moved = put_front(out, o, &src[i..]);
+        let moved = put_front(&src[i..], o, out);
         o = moved.at;
         i += moved.taken;
     }
@@ -67,11 +67,11 @@ fn trim(s: &[u8]) -> usize
 }
 
 // Puts a subtag. A NUL stands by itself, so those at the end may go first. Machinery: it refuses nothing.
-pub fn put_subtag(out: &mut [u8], at: usize, src: &[u8]) -> usize
+pub fn put_subtag(src: &[u8], at: usize, out: &mut [u8]) -> usize
     ensures { λ r. ⌜ Put (now (out .entry)) at (subtagOf (now (src .entry))) (now (out .exit)) r ⌝ }
 {
     let n = trim(src);
-    put_replaced(out, at, &src[..n])
+    put_replaced(&src[..n], at, out)
 }
 
 // How many bytes the front of src becomes, and how many it has.
@@ -103,12 +103,12 @@ fn fits(src: &[u8], room: usize) -> bool
 }
 
 // Writes a subtag to the front of out; where out is shorter, it is left as it is.
-pub fn write_subtag(out: &mut [u8], src: &[u8]) -> Written
+pub fn write_subtag(src: &[u8], out: &mut [u8]) -> Written
     ensures { λ r. ⌜ outcome r (now (out .exit)) ≡ written (subtagOf (now (src .entry))) (now (out .entry)) ⌝ }
 {
     let n = trim(src);
     if fits(&src[..n], out.len()) {
-        let end = put_replaced(out, 0, &src[..n]);
+        let end = put_replaced(&src[..n], 0, out);
         Written::Wrote(end)
     } else {
         Written::Refused(Refusal::ShortBuffer)

@@ -12,7 +12,7 @@ pub enum Front {
     IllFormed(usize),
 }
 
-// Whether s has a byte from lo to hi at place i.
+// Whether s has a byte from lo to hi at offset i.
 fn ok_at(s: &[u8], i: usize, lo: u8, hi: u8) -> bool
     ensures { λ r. ⌜ r ≡ okAt (now (s .entry)) i lo hi ⌝ }
 {

@@ -12,18 +12,18 @@ pub fn line(bytes: &[u8], line: &mut [u8]) -> usize
     let mut end = 0;
     let mut i = 0;
     while i < bytes.len() {
-        end = digits(line, end, bytes[i]);
+        end = digits(bytes[i], end, line);
         i += 1;
     }
-    buffer::put_byte(line, end, b'\n')
+    buffer::put_byte(b'\n', end, line)
 }
 
 // Puts a byte's two digits.
-fn digits(line: &mut [u8], at: usize, byte: u8) -> usize
+fn digits(byte: u8, at: usize, line: &mut [u8]) -> usize
     ensures { λ r. ⌜ Put (now (line .entry)) at (hexOf (byte ∷ [])) (now (line .exit)) r ⌝ }
 {
-    let next = buffer::put_byte(line, at, digit(byte / 16));
-    buffer::put_byte(line, next, digit(byte % 16))
+    let next = buffer::put_byte(digit(byte / 16), at, line);
+    buffer::put_byte(digit(byte % 16), next, line)
 }
 
 // The digit of a number below 16.

@@ -29,7 +29,7 @@ pub fn eight(bytes: &[u8]) -> usize
         + 256 * (byte(bytes, 1) + 256 * (byte(bytes, 2) + 256 * (byte(bytes, 3) + 256 * high)))
 }
 
-// The byte at a place; 0 past the end.
+// The byte at an offset; 0 past the end.
 fn byte(bytes: &[u8], at: usize) -> usize
     ensures { λ r. ⌜ (r ≡ getD (now (bytes .entry)) at 0) × (r < 256) ⌝ }
 {
@@ -44,19 +44,19 @@ fn wide(byte: u8) -> usize
 }
 
 // Puts a number's two bytes.
-pub fn put_two(out: &mut [u8], at: usize, n: u16) -> usize
+pub fn put_two(n: u16, at: usize, out: &mut [u8]) -> usize
     ensures { λ r. ⌜ Put (now (out .entry)) at (bytesOf 2 n) (now (out .exit)) r ⌝ }
 {
-    let at = buffer::put_byte(out, at, (n % 256) as u8);
-    buffer::put_byte(out, at, (n / 256 % 256) as u8)
+    let at = buffer::put_byte((n % 256) as u8, at, out);
+    buffer::put_byte((n / 256 % 256) as u8, at, out)
 }
 
 // Puts a number's four bytes.
-pub fn put_four(out: &mut [u8], at: usize, n: u32) -> usize
+pub fn put_four(n: u32, at: usize, out: &mut [u8]) -> usize
     ensures { λ r. ⌜ Put (now (out .entry)) at (bytesOf 4 n) (now (out .exit)) r ⌝ }
 {
-    let at = buffer::put_byte(out, at, (n % 256) as u8);
-    let at = buffer::put_byte(out, at, (n / 256 % 256) as u8);
-    let at = buffer::put_byte(out, at, (n / 256 / 256 % 256) as u8);
-    buffer::put_byte(out, at, (n / 256 / 256 / 256 % 256) as u8)
+    let at = buffer::put_byte((n % 256) as u8, at, out);
+    let at = buffer::put_byte((n / 256 % 256) as u8, at, out);
+    let at = buffer::put_byte((n / 256 / 256 % 256) as u8, at, out);
+    buffer::put_byte((n / 256 / 256 / 256 % 256) as u8, at, out)
 }

@@ -14,7 +14,7 @@ use Rattle.record.specs.Blank.{withSize}
 use Rattle.order.specs.declared.Ordering.{Ordering}
 use Rattle.order.specs.Order.{equalOf, orderOf, orderingTells}
 use Rattle.reading.specs.declared.Parsed.{Parsed}
-use Rattle.reading.specs.Reading.{ParseOutcome, parsedOutcome, parseOf, amountOf, plain}
+use Rattle.reading.specs.Reading.{ParseOutcome, parsedOutcome, parseOf, takeOf, plain}
 use Rattle.reading.proofs.Whole.{took-whole, refused-whole}
 use Rattle.writing.specs.Writing.{writeOf}
 use Rattle.lines.specs.declared.Lined.{Lined}
@@ -56,7 +56,7 @@ module _ (l : Lined) (new : List ℕ) (o : LineOutcome) (e : linedOutcome l new 
   line-goes r g = (g ∙ ap (λ (x : LineOutcome). cursorPacked (x .goes)) e, ap (λ (x : LineOutcome). x .does .leaves) e)
 
 -- of writing with another size
-module _ (s old : List ℕ) (size : ℕ) (amount : Taken) (told : takenTells amount ≡ amountOf s) where
+module _ (s old : List ℕ) (size : ℕ) (amount : Taken) (told : takenTells amount ≡ takeOf s) where
   -- the record isn't whole
   pub sized-refused : (why : Refusal) → amount ≡ Taken.Refused why → refused why old ≡ writeSized s size old
   sized-refused why e = sym (refused-whole s _ _ why (rw e at told))
@@ -65,6 +65,6 @@ module _ (s old : List ℕ) (size : ℕ) (amount : Taken) (told : takenTells amo
   pub sized-whole : (n : ℕ) (p : Parsed) (r : ResTableConfig) (o : Outcome) → amount ≡ Taken.Took n → parsedOutcome p ≡ parseOf s
       → r ≡ withSize (p .«record») size → o ≡ writeOf r old → o ≡ writeSized s size old
   sized-whole n p r o e g f h =
-      let t : success n ≡ amountOf s = rw e at told in
+      let t : success n ≡ takeOf s = rw e at told in
       let is : p .«record» ≡ plain s = gives p _ (g ∙ took-whole s _ _ n t) in
       h ∙ rw (f, is) (sym (took-whole s _ _ n t))

@@ -7,8 +7,8 @@ use lines::first;
 use lines::line;
 use order::cmp;
 use order::eq;
-use reading::amount;
 use reading::parse;
+use reading::take;
 use record::Age;
 use record::ResTableConfig;
 use record::blank;
@@ -154,7 +154,7 @@ fn sized(mut r: ResTableConfig, size: u32) -> ResTableConfig
 fn write_sized(bytes: &[u8], size: u32, out: &mut [u8]) -> Written
     ensures { λ r. ⌜ outcome r (now (out .exit)) ≡ writeSized (now (bytes .entry)) size (now (out .entry)) ⌝ }
 {
-    match amount(bytes) {
+    match take(bytes) {
         Taken::Refused(why) => Written::Refused(why),
         Taken::Took(_) => {
             let parsed = parse(bytes);

@@ -38,25 +38,25 @@ pub(crate) fn answer(tag: u8, payload: &[u8], out: &mut [u8]) -> usize {
 // The bits of a row of the flags.
 fn flag(row: u16, out: &mut [u8]) -> usize {
     let flag = ResTableConfigFlags::nth(row as usize);
-    test_frames::put_four(out, 0, flag.0)
+    test_frames::put_four(flag.0, 0, out)
 }
 
 // A number made a density and back.
 fn density_and_back(n: u16, out: &mut [u8]) -> usize {
-    test_frames::put_two(out, 0, Density::from(n).number())
+    test_frames::put_two(Density::from(n).number(), 0, out)
 }
 
 // The answer on the kind that a tag names, made of a number: its case, what the case holds, its words.
 fn kind(tag: u8, n: u16, out: &mut [u8]) -> usize {
     let kind = kind_of(tag, n);
-    let at = put_case(out, 0, case_of(kind));
-    put_words(out, at, kind)
+    let at = put_case(case_of(kind), 0, out);
+    put_words(kind, at, out)
 }
 
 // Puts a case and what it holds.
-pub(crate) fn put_case(out: &mut [u8], at: usize, case: Case) -> usize {
-    let at = buffer::put_byte(out, at, case.0);
-    test_frames::put_two(out, at, case.1)
+pub(crate) fn put_case(case: Case, at: usize, out: &mut [u8]) -> usize {
+    let at = buffer::put_byte(case.0, at, out);
+    test_frames::put_two(case.1, at, out)
 }
 
 // The kind that a tag names, made of a number.
@@ -104,12 +104,12 @@ fn case_of(kind: Kind) -> Case {
     }
 }
 
-// Writes a kind's words from a place on, and gives their end; a refusal, which no question should meet, leaves no answer.
-fn put_words(out: &mut [u8], at: usize, kind: Kind) -> usize {
+// Writes a kind's words from an offset on, and gives their end; a refusal, which no question should meet, leaves no answer.
+fn put_words(kind: Kind, at: usize, out: &mut [u8]) -> usize {
     if out.len() < at {
         return 0;
     }
-    match words::write_words(&mut out[at..], kind) {
+    match words::write_words(kind, &mut out[at..]) {
         Written::Wrote(n) => std::num::wrapping_add_usize(at, n),
         Written::Refused(_) => 0,
     }

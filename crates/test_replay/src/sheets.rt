@@ -15,96 +15,96 @@ pub(crate) fn answer(bytes: &[u8], out: &mut [u8]) -> usize {
     match answer {
         Taken::Took(_) => {
             let record = parsed.record;
-            put_sheet(out, sheet::sheet_of(record))
+            put_sheet(sheet::sheet_of(record), out)
         }
-        Taken::Refused(_) => buffer::put_byte(out, 0, REFUSED),
+        Taken::Refused(_) => buffer::put_byte(REFUSED, 0, out),
     }
 }
 
 // Puts a sheet in the order of its fields.
-fn put_sheet(out: &mut [u8], s: Sheet) -> usize {
-    let at = put_dps(out, 0, s);
-    let at = put_sides(out, at, s);
-    let at = put_layout(out, at, s);
-    let at = put_screen(out, at, s);
-    let at = put_mode(out, at, s);
-    let at = put_input(out, at, s);
-    test_frames::put_four(out, at, s.said)
+fn put_sheet(s: Sheet, out: &mut [u8]) -> usize {
+    let at = put_dps(s, 0, out);
+    let at = put_sides(s, at, out);
+    let at = put_layout(s, at, out);
+    let at = put_screen(s, at, out);
+    let at = put_mode(s, at, out);
+    let at = put_input(s, at, out);
+    test_frames::put_four(s.said, at, out)
 }
 
 // Puts the codes and the three dp values.
-fn put_dps(out: &mut [u8], at: usize, s: Sheet) -> usize {
-    let at = test_frames::put_two(out, at, s.mcc);
+fn put_dps(s: Sheet, at: usize, out: &mut [u8]) -> usize {
+    let at = test_frames::put_two(s.mcc, at, out);
     let code = s.network_code;
-    let at = put_network_code(out, at, code);
-    let at = test_frames::put_two(out, at, s.smallest_screen_width_dp);
-    let at = test_frames::put_two(out, at, s.screen_width_dp);
-    test_frames::put_two(out, at, s.screen_height_dp)
+    let at = put_network_code(code, at, out);
+    let at = test_frames::put_two(s.smallest_screen_width_dp, at, out);
+    let at = test_frames::put_two(s.screen_width_dp, at, out);
+    test_frames::put_two(s.screen_height_dp, at, out)
 }
 
 // Puts the pixel sides and the version.
-fn put_sides(out: &mut [u8], at: usize, s: Sheet) -> usize {
-    let at = test_frames::put_two(out, at, s.screen_width);
-    let at = test_frames::put_two(out, at, s.screen_height);
-    let at = test_frames::put_two(out, at, s.sdk_version);
-    test_frames::put_two(out, at, s.minor_version)
+fn put_sides(s: Sheet, at: usize, out: &mut [u8]) -> usize {
+    let at = test_frames::put_two(s.screen_width, at, out);
+    let at = test_frames::put_two(s.screen_height, at, out);
+    let at = test_frames::put_two(s.sdk_version, at, out);
+    test_frames::put_two(s.minor_version, at, out)
 }
 
 // Puts a network code: 0 where it is silent, else 1, and its number.
-fn put_network_code(out: &mut [u8], at: usize, code: NetworkCode) -> usize {
+fn put_network_code(code: NetworkCode, at: usize, out: &mut [u8]) -> usize {
     match code {
-        NetworkCode::Silent => buffer::put(out, at, b"\0\0\0"),
+        NetworkCode::Silent => buffer::put(b"\0\0\0", at, out),
         NetworkCode::Code(n) => {
-            let at = buffer::put_byte(out, at, 1);
-            test_frames::put_two(out, at, n)
+            let at = buffer::put_byte(1, at, out);
+            test_frames::put_two(n, at, out)
         }
     }
 }
 
 // Puts the kinds from the gender to the long screen.
-fn put_layout(out: &mut [u8], at: usize, s: Sheet) -> usize {
+fn put_layout(s: Sheet, at: usize, out: &mut [u8]) -> usize {
     let gender = s.grammatical_gender;
-    let at = put_case(out, at, cases::gender(gender));
+    let at = put_case(cases::gender(gender), at, out);
     let layout_dir = s.layout_dir;
-    let at = put_case(out, at, cases::layout_dir(layout_dir));
+    let at = put_case(cases::layout_dir(layout_dir), at, out);
     let screen_size = s.screen_size;
-    let at = put_case(out, at, cases::screen_size(screen_size));
+    let at = put_case(cases::screen_size(screen_size), at, out);
     let screen_long = s.screen_long;
-    put_case(out, at, cases::screen_long(screen_long))
+    put_case(cases::screen_long(screen_long), at, out)
 }
 
 // Puts the kinds from the round screen to HDR.
-fn put_screen(out: &mut [u8], at: usize, s: Sheet) -> usize {
+fn put_screen(s: Sheet, at: usize, out: &mut [u8]) -> usize {
     let screen_round = s.screen_round;
-    let at = put_case(out, at, cases::screen_round(screen_round));
+    let at = put_case(cases::screen_round(screen_round), at, out);
     let wide_color_gamut = s.wide_color_gamut;
-    let at = put_case(out, at, cases::wide_color_gamut(wide_color_gamut));
+    let at = put_case(cases::wide_color_gamut(wide_color_gamut), at, out);
     let hdr = s.hdr;
-    put_case(out, at, cases::hdr(hdr))
+    put_case(cases::hdr(hdr), at, out)
 }
 
 // Puts the kinds from the orientation to the touch screen.
-fn put_mode(out: &mut [u8], at: usize, s: Sheet) -> usize {
+fn put_mode(s: Sheet, at: usize, out: &mut [u8]) -> usize {
     let orientation = s.orientation;
-    let at = put_case(out, at, cases::orientation(orientation));
+    let at = put_case(cases::orientation(orientation), at, out);
     let ui_mode = s.ui_mode;
-    let at = put_case(out, at, cases::ui_mode(ui_mode));
+    let at = put_case(cases::ui_mode(ui_mode), at, out);
     let ui_mode_night = s.ui_mode_night;
-    let at = put_case(out, at, cases::ui_mode_night(ui_mode_night));
+    let at = put_case(cases::ui_mode_night(ui_mode_night), at, out);
     let density = s.density;
-    let at = put_case(out, at, cases::density(density));
+    let at = put_case(cases::density(density), at, out);
     let touchscreen = s.touchscreen;
-    put_case(out, at, cases::touchscreen(touchscreen))
+    put_case(cases::touchscreen(touchscreen), at, out)
 }
 
 // Puts the kinds of keys and navigation.
-fn put_input(out: &mut [u8], at: usize, s: Sheet) -> usize {
+fn put_input(s: Sheet, at: usize, out: &mut [u8]) -> usize {
     let keys_hidden = s.keys_hidden;
-    let at = put_case(out, at, cases::keys_hidden(keys_hidden));
+    let at = put_case(cases::keys_hidden(keys_hidden), at, out);
     let keyboard = s.keyboard;
-    let at = put_case(out, at, cases::keyboard(keyboard));
+    let at = put_case(cases::keyboard(keyboard), at, out);
     let nav_hidden = s.nav_hidden;
-    let at = put_case(out, at, cases::nav_hidden(nav_hidden));
+    let at = put_case(cases::nav_hidden(nav_hidden), at, out);
     let navigation = s.navigation;
-    put_case(out, at, cases::navigation(navigation))
+    put_case(cases::navigation(navigation), at, out)
 }

@@ -13,7 +13,7 @@ fn filled(buffer: &mut [u8], length: usize) -> bool {
     io::read_full(STDIN_FILENO, &mut buffer[..n]) == length
 }
 
-// Writes the line of an answer that ends at a place of its buffer; says whether that went well.
+// Writes the line of an answer that ends at an offset of its buffer; says whether that went well.
 fn said(answer: &[u8], end: usize, line: &mut [u8]) -> bool {
     let n = test_frames::front(end, answer);
     let end = test_frames::line(&answer[..n], line);

@@ -25,7 +25,7 @@ pub(crate) fn answer(tag: u8, payload: &[u8], out: &mut [u8]) -> usize {
     let behind = &payload[16..];
     let n = test_frames::front(lent, behind);
     match tag {
-        37..=39 => put_stepped(out, stepped(tag, &behind[n..], offset, age)),
+        37..=39 => put_stepped(stepped(tag, &behind[n..], offset, age), out),
         40 => held(&behind[n..], offset, age, out),
         41 | 42 => wrote(tag, &behind[n..], offset, age, &behind[..n], out),
         _ => 0,
@@ -49,30 +49,30 @@ fn sought(bytes: &[u8], offset: usize) -> Stepped
 }
 
 // Puts what a step tells, where the next one goes on, and the record.
-fn put_stepped(out: &mut [u8], stepped: Stepped) -> usize {
+fn put_stepped(stepped: Stepped, out: &mut [u8]) -> usize {
     let step = stepped.answer;
-    let at = put_told(out, step.told());
-    let at = put_amount(out, at, stepped.next);
+    let at = put_told(step.told(), out);
+    let at = put_amount(stepped.next, at, out);
     let record = stepped.record;
-    put_fields(out, at, record)
+    put_fields(record, at, out)
 }
 
 // Whether the record at an offset is held back.
 fn held(bytes: &[u8], offset: usize, age: Age, out: &mut [u8]) -> usize {
     let from = test_frames::front(offset, bytes);
     let held = marking::held_back(&bytes[from..], age);
-    put_told(out, held.told())
+    put_told(held.told(), out)
 }
 
 // What a call that writes tells, and the lent bytes as it leaves them.
 fn wrote(tag: u8, bytes: &[u8], offset: usize, age: Age, lent: &[u8], out: &mut [u8]) -> usize {
-    let end = buffer::put(out, LENT, lent);
+    let end = buffer::put(lent, LENT, out);
     let n = test_frames::front(end, out);
     if n < LENT {
         return 0;
     }
     let answer = written(tag, bytes, offset, age, &mut out[LENT..n]);
-    put_told(out, answer.told());
+    put_told(answer.told(), out);
     n
 }
 
@@ -85,7 +85,7 @@ fn written(tag: u8, bytes: &[u8], offset: usize, age: Age, out: &mut [u8]) -> Wr
 }
 
 // Puts what a call tells at the front: the number in four bytes, the amount in eight.
-fn put_told(out: &mut [u8], told: Told) -> usize {
-    let at = test_frames::put_four(out, 0, told.number);
-    put_amount(out, at, told.amount)
+fn put_told(told: Told, out: &mut [u8]) -> usize {
+    let at = test_frames::put_four(told.number, 0, out);
+    put_amount(told.amount, at, out)
 }

@@ -23,7 +23,7 @@ pub(crate) fn answer(tag: u8, payload: &[u8], out: &mut [u8]) -> usize {
 
 // Answers that there is no whole record.
 fn refused(out: &mut [u8]) -> usize {
-    buffer::put_byte(out, 0, REFUSED)
+    buffer::put_byte(REFUSED, 0, out)
 }
 
 // Whether the bytes hold a record, how many of them it takes, and the fields.
@@ -32,10 +32,10 @@ fn parse(bytes: &[u8], out: &mut [u8]) -> usize {
     let answer = parsed.answer;
     match answer {
         Taken::Took(amount) => {
-            let at = buffer::put_byte(out, 0, 0);
-            let at = put_amount(out, at, amount);
+            let at = buffer::put_byte(0, 0, out);
+            let at = put_amount(amount, at, out);
             let record = parsed.record;
-            put_fields(out, at, record)
+            put_fields(record, at, out)
         }
         Taken::Refused(_) => refused(out),
     }
@@ -48,14 +48,14 @@ fn written_back(bytes: &[u8], out: &mut [u8]) -> usize {
     match answer {
         Taken::Took(_) => {
             let record = parsed.record;
-            put_written(out, record)
+            put_written(record, out)
         }
         Taken::Refused(_) => refused(out),
     }
 }
 
 // What the writer writes; a refusal, which no question should meet, leaves no answer.
-fn put_written(out: &mut [u8], record: ResTableConfig) -> usize {
+fn put_written(record: ResTableConfig, out: &mut [u8]) -> usize {
     match writing::write(record, out) {
         Written::Wrote(n) => n,
         Written::Refused(_) => 0,
@@ -69,7 +69,7 @@ fn accessors(bytes: &[u8], out: &mut [u8]) -> usize {
     match answer {
         Taken::Took(_) => {
             let record = parsed.record;
-            put_accessed(out, record)
+            put_accessed(record, out)
         }
         Taken::Refused(_) => refused(out),
     }
@@ -86,7 +86,7 @@ fn set_density(payload: &[u8], out: &mut [u8]) -> usize {
     match answer {
         Taken::Took(_) => {
             let record = parsed.record;
-            put_fields(out, 0, record.set_density(density))
+            put_fields(record.set_density(density), 0, out)
         }
         Taken::Refused(_) => refused(out),
     }
@@ -127,9 +127,9 @@ fn took(answer: Taken) -> bool {
 
 // The answer on two records.
 fn compare_records(a: ResTableConfig, b: ResTableConfig, out: &mut [u8]) -> usize {
-    let at = buffer::put_byte(out, 0, yes(order::eq(a, b)));
-    let at = buffer::put_byte(out, at, order_number(order::cmp(a, b)));
-    buffer::put_byte(out, at, order_number(order::cmp(b, a)))
+    let at = buffer::put_byte(yes(order::eq(a, b)), 0, out);
+    let at = buffer::put_byte(order_number(order::cmp(a, b)), at, out);
+    buffer::put_byte(order_number(order::cmp(b, a)), at, out)
 }
 
 // No is 0, yes is 1.
@@ -147,125 +147,125 @@ fn order_number(ordering: Ordering) -> u8 {
 }
 
 // Puts an amount in eight bytes.
-pub(crate) fn put_amount(out: &mut [u8], at: usize, amount: usize) -> usize {
-    let at = test_frames::put_four(out, at, (amount % 4294967296) as u32);
-    test_frames::put_four(out, at, (amount / 4294967296) as u32)
+pub(crate) fn put_amount(amount: usize, at: usize, out: &mut [u8]) -> usize {
+    let at = test_frames::put_four((amount % 4294967296) as u32, at, out);
+    test_frames::put_four((amount / 4294967296) as u32, at, out)
 }
 
 // Puts the fifteen fields in their order.
-pub(crate) fn put_fields(out: &mut [u8], at: usize, r: ResTableConfig) -> usize {
-    let at = put_first(out, at, r);
-    let at = put_words(out, at, r);
-    let at = put_locale(out, at, r);
-    put_last(out, at, r)
+pub(crate) fn put_fields(r: ResTableConfig, at: usize, out: &mut [u8]) -> usize {
+    let at = put_first(r, at, out);
+    let at = put_words(r, at, out);
+    let at = put_locale(r, at, out);
+    put_last(r, at, out)
 }
 
 // Puts the four fields that are always read.
-fn put_first(out: &mut [u8], at: usize, r: ResTableConfig) -> usize {
-    let at = test_frames::put_four(out, at, r.size);
-    let at = test_frames::put_four(out, at, r.imsi);
-    let at = test_frames::put_four(out, at, r.locale);
-    test_frames::put_four(out, at, r.screen_type)
+fn put_first(r: ResTableConfig, at: usize, out: &mut [u8]) -> usize {
+    let at = test_frames::put_four(r.size, at, out);
+    let at = test_frames::put_four(r.imsi, at, out);
+    let at = test_frames::put_four(r.locale, at, out);
+    test_frames::put_four(r.screen_type, at, out)
 }
 
 // Puts the five words behind those.
-fn put_words(out: &mut [u8], at: usize, r: ResTableConfig) -> usize {
-    let at = test_frames::put_four(out, at, r.generic_purpose_field);
-    let at = test_frames::put_four(out, at, r.screen_size);
-    let at = test_frames::put_four(out, at, r.version);
-    let at = test_frames::put_four(out, at, r.screen_config);
-    test_frames::put_four(out, at, r.screen_size_dp)
+fn put_words(r: ResTableConfig, at: usize, out: &mut [u8]) -> usize {
+    let at = test_frames::put_four(r.generic_purpose_field, at, out);
+    let at = test_frames::put_four(r.screen_size, at, out);
+    let at = test_frames::put_four(r.version, at, out);
+    let at = test_frames::put_four(r.screen_config, at, out);
+    test_frames::put_four(r.screen_size_dp, at, out)
 }
 
 // Puts script and variant.
-fn put_locale(out: &mut [u8], at: usize, r: ResTableConfig) -> usize {
+fn put_locale(r: ResTableConfig, at: usize, out: &mut [u8]) -> usize {
     let script = r.locale_script;
-    let at = put_4(out, at, script);
+    let at = put_4(script, at, out);
     let variant = r.locale_variant;
-    put_8(out, at, variant)
+    put_8(variant, at, out)
 }
 
 // Puts the last four fields.
-fn put_last(out: &mut [u8], at: usize, r: ResTableConfig) -> usize {
-    let at = test_frames::put_four(out, at, r.screen_config_2);
-    let at = buffer::put_byte(out, at, yes(r.locale_script_was_computed));
+fn put_last(r: ResTableConfig, at: usize, out: &mut [u8]) -> usize {
+    let at = test_frames::put_four(r.screen_config_2, at, out);
+    let at = buffer::put_byte(yes(r.locale_script_was_computed), at, out);
     let numbering = r.locale_numbering_system;
-    let at = put_8(out, at, numbering);
+    let at = put_8(numbering, at, out);
     let padding = r.end_padding;
-    put_3(out, at, padding)
+    put_3(padding, at, out)
 }
 
 // Puts an array of three bytes.
-fn put_3(out: &mut [u8], at: usize, bytes: [u8; 3]) -> usize {
-    buffer::put(out, at, &bytes)
+fn put_3(bytes: [u8; 3], at: usize, out: &mut [u8]) -> usize {
+    buffer::put(&bytes, at, out)
 }
 
 // Puts an array of four bytes.
-fn put_4(out: &mut [u8], at: usize, bytes: [u8; 4]) -> usize {
-    buffer::put(out, at, &bytes)
+fn put_4(bytes: [u8; 4], at: usize, out: &mut [u8]) -> usize {
+    buffer::put(&bytes, at, out)
 }
 
 // Puts an array of eight bytes.
-fn put_8(out: &mut [u8], at: usize, bytes: [u8; 8]) -> usize {
-    buffer::put(out, at, &bytes)
+fn put_8(bytes: [u8; 8], at: usize, out: &mut [u8]) -> usize {
+    buffer::put(&bytes, at, out)
 }
 
 // Puts what every accessor gives, in 000's order.
-fn put_accessed(out: &mut [u8], r: ResTableConfig) -> usize {
+fn put_accessed(r: ResTableConfig, out: &mut [u8]) -> usize {
     let codes = r.get_mcc_mnc();
-    let at = put_halves(out, 0, codes.mcc, codes.mnc);
+    let at = put_halves(codes.mcc, codes.mnc, 0, out);
     let screen = r.get_orientation_touchscreen_density();
     let at = put_parts(
-        out,
-        at,
         screen.orientation,
         screen.touchscreen,
         screen.density,
+        at,
+        out,
     );
-    let at = put_input(out, at, r);
+    let at = put_input(r, at, out);
     let size = r.get_screen_width_height();
-    let at = put_halves(out, at, size.screen_width, size.screen_height);
+    let at = put_halves(size.screen_width, size.screen_height, at, out);
     let version = r.get_sdk_minor_version();
-    let at = put_halves(out, at, version.sdk_version, version.minor_version);
-    put_screen(out, at, r)
+    let at = put_halves(version.sdk_version, version.minor_version, at, out);
+    put_screen(r, at, out)
 }
 
 // Puts what the accessors on `generic_purpose_field` give.
-fn put_input(out: &mut [u8], at: usize, r: ResTableConfig) -> usize {
+fn put_input(r: ResTableConfig, at: usize, out: &mut [u8]) -> usize {
     let keys = r.get_keyboard_navigation_input_flags();
-    let at = buffer::put_byte(out, at, keys.keyboard);
-    let at = buffer::put_byte(out, at, keys.navigation);
-    let at = buffer::put_byte(out, at, keys.input_flags);
-    let at = test_frames::put_four(out, at, r.get_input());
-    buffer::put_byte(out, at, r.get_grammatical_inflection())
+    let at = buffer::put_byte(keys.keyboard, at, out);
+    let at = buffer::put_byte(keys.navigation, at, out);
+    let at = buffer::put_byte(keys.input_flags, at, out);
+    let at = test_frames::put_four(r.get_input(), at, out);
+    buffer::put_byte(r.get_grammatical_inflection(), at, out)
 }
 
 // Puts what the last three accessors give.
-fn put_screen(out: &mut [u8], at: usize, r: ResTableConfig) -> usize {
+fn put_screen(r: ResTableConfig, at: usize, out: &mut [u8]) -> usize {
     let layout = r.get_screen_layout_ui_smallest_width();
     let at = put_parts(
-        out,
-        at,
         layout.screen_layout,
         layout.ui_mode,
         layout.smallest_screen_width_dp,
+        at,
+        out,
     );
     let dp = r.get_screen_width_height_dp();
-    let at = put_halves(out, at, dp.screen_width_dp, dp.screen_height_dp);
+    let at = put_halves(dp.screen_width_dp, dp.screen_height_dp, at, out);
     let second = r.get_screen_layout_2_color_mode();
-    let at = buffer::put_byte(out, at, second.screen_layout_2);
-    buffer::put_byte(out, at, second.color_mode)
+    let at = buffer::put_byte(second.screen_layout_2, at, out);
+    buffer::put_byte(second.color_mode, at, out)
 }
 
 // Puts the two halves of a word.
-fn put_halves(out: &mut [u8], at: usize, low: u16, high: u16) -> usize {
-    let at = test_frames::put_two(out, at, low);
-    test_frames::put_two(out, at, high)
+fn put_halves(low: u16, high: u16, at: usize, out: &mut [u8]) -> usize {
+    let at = test_frames::put_two(low, at, out);
+    test_frames::put_two(high, at, out)
 }
 
 // Puts the two lower bytes of a word, and its upper half.
-fn put_parts(out: &mut [u8], at: usize, first: u8, second: u8, high: u16) -> usize {
-    let at = buffer::put_byte(out, at, first);
-    let at = buffer::put_byte(out, at, second);
-    test_frames::put_two(out, at, high)
+fn put_parts(first: u8, second: u8, high: u16, at: usize, out: &mut [u8]) -> usize {
+    let at = buffer::put_byte(first, at, out);
+    let at = buffer::put_byte(second, at, out);
+    test_frames::put_two(high, at, out)
 }

@@ -20,7 +20,7 @@ pub(crate) fn answer(tag: u8, payload: &[u8], out: &mut [u8]) -> usize {
 
 // Answers that there is no text.
 fn refused(out: &mut [u8]) -> usize {
-    buffer::put_byte(out, 0, REFUSED)
+    buffer::put_byte(REFUSED, 0, out)
 }
 
 // 0, and the text of the record that the bytes hold: the whole one, or what its locale says.
@@ -30,14 +30,14 @@ fn of_record(whole: bool, bytes: &[u8], out: &mut [u8]) -> usize {
     match answer {
         Taken::Took(_) => {
             let record = parsed.record;
-            let at = buffer::put_byte(out, 0, 0);
+            let at = buffer::put_byte(0, 0, out);
             behind(at, whole, record, out)
         }
         Taken::Refused(_) => refused(out),
     }
 }
 
-// A record's text from a place on.
+// A record's text from an offset on.
 fn behind(at: usize, whole: bool, record: ResTableConfig, out: &mut [u8]) -> usize {
     if out.len() < at {
         return 0;
@@ -51,9 +51,9 @@ fn behind(at: usize, whole: bool, record: ResTableConfig, out: &mut [u8]) -> usi
 // Writes a record's text.
 fn written(whole: bool, record: ResTableConfig, out: &mut [u8]) -> Written {
     if whole {
-        text::as_string(out, record)
+        text::as_string(record, out)
     } else {
-        locale::write_locale(out, record)
+        locale::write_locale(record, out)
     }
 }
 
@@ -62,7 +62,7 @@ fn language(payload: &[u8], out: &mut [u8]) -> usize {
     if payload.len() < 2 {
         return 0;
     }
-    let said = language::write_language(out, payload[0], payload[1]);
+    let said = language::write_language(payload[0], payload[1], out);
     length(said, out)
 }
 
@@ -71,13 +71,13 @@ fn region(payload: &[u8], out: &mut [u8]) -> usize {
     if payload.len() < 2 {
         return 0;
     }
-    let said = language::write_region(out, payload[0], payload[1]);
+    let said = language::write_region(payload[0], payload[1], out);
     length(said, out)
 }
 
 // The bytes as a subtag.
 fn of_bytes(payload: &[u8], out: &mut [u8]) -> usize {
-    let said = subtag::write_subtag(out, payload);
+    let said = subtag::write_subtag(payload, out);
     length(said, out)
 }
 

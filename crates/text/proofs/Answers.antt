@@ -14,7 +14,7 @@ use Rattle.buffer.proofs.Putting.{front-ends}
 use Rattle.buffer.proofs.Writing.{put-written}
 use Rattle.record.specs.Ages.{isAge}
 use Rattle.reading.specs.declared.Parsed.{Parsed}
-use Rattle.reading.specs.Reading.{ParseOutcome, parsedOutcome, parseOf, parseAged, amountOf, plain, aged}
+use Rattle.reading.specs.Reading.{ParseOutcome, parsedOutcome, parseOf, parseAged, takeOf, plain, aged}
 use Rattle.reading.proofs.Whole.{age-known, age-unknown, took-says, took-whole, refused-whole}
 use Rattle.marking.specs.Marks.{lateBytes, heldBack}
 use Rattle.places.specs.Places.{textOf}
@@ -24,7 +24,7 @@ use Rattle.text.specs.Text.{plainText, agedText}
 pub put-fits : {old : List ℕ} {w : List ℕ} {new : List ℕ} {r : ℕ} → length w ≤ length old → Put old 0 w new r → outcome (Written.Wrote r) new ≡ written w old
 put-fits h p = rw (front-ends p h) (put-written h p)
 
-module _ (s old : List ℕ) (amount : Taken) (told : takenTells amount ≡ amountOf s) where
+module _ (s old : List ℕ) (amount : Taken) (told : takenTells amount ≡ takeOf s) where
   -- the record's size answers 1 or 2
   pub plain-refused : (why : Refusal) → amount ≡ Taken.Refused why → refused why old ≡ plainText s old
   plain-refused why e = sym (refused-whole s _ _ why (rw e at told))
@@ -33,7 +33,7 @@ module _ (s old : List ℕ) (amount : Taken) (told : takenTells amount ≡ amoun
   pub plain-whole : (n : ℕ) (p : Parsed) (o : Outcome) → amount ≡ Taken.Took n → parsedOutcome p ≡ parseOf s
       → o ≡ written (textOf (p .«record»)) old → o ≡ plainText s old
   plain-whole n p o e g h =
-      let t : success n ≡ amountOf s = rw e at told in
+      let t : success n ≡ takeOf s = rw e at told in
       let gives : p .«record» ≡ plain s = ap (λ (x : ParseOutcome). x .gives) (g ∙ took-whole s _ _ n t) in
       h ∙ rw gives (sym (took-whole s _ _ n t))
 
@@ -47,7 +47,7 @@ module _ (s old : List ℕ) (amount : Taken) (told : takenTells amount ≡ amoun
         → agedText a s old ≡ cond late (refused Refusal.HeldBack old) (written (textOf (aged a s)) old)
     unfolding heldBack
     behind n late e l =
-        let t : success n ≡ amountOf s = rw e at told in
+        let t : success n ≡ takeOf s = rw e at told in
         age-known a _ _ known ∙ took-whole s _ _ n t ∙ rw (← took-says s n t .0, ← l)
 
     pub aged-held : (n : ℕ) (late : Bool) → amount ≡ Taken.Took n → late ≡ lateBytes s n a → late ≡ true → refused Refusal.HeldBack old ≡ agedText a s old
@@ -56,7 +56,7 @@ module _ (s old : List ℕ) (amount : Taken) (told : takenTells amount ≡ amoun
     pub aged-shown : (n : ℕ) (late : Bool) (p : Parsed) (o : Outcome) → amount ≡ Taken.Took n → late ≡ lateBytes s n a → late ≡ false
         → parsedOutcome p ≡ parseAged a s → o ≡ written (textOf (p .«record»)) old → o ≡ agedText a s old
     aged-shown n late p o e l q g h =
-        let t : success n ≡ amountOf s = rw e at told in
+        let t : success n ≡ takeOf s = rw e at told in
         let gives : p .«record» ≡ aged a s = ap (λ (x : ParseOutcome). x .gives) (g ∙ age-known a _ _ known ∙ took-whole s _ _ n t) in
         h ∙ rw gives (sym (behind n late e l ∙ rw q))
 

@@ -9,7 +9,7 @@ use Rattle.record.specs.Ages.{isAge}
 use Rattle.record.specs.Blank.{withSize}
 use Rattle.reading.specs.Reading.{taken, plain, aged}
 use Rattle.marking.specs.Marks.{heldBack}
-use Rattle.marking.proofs.TwoAges.{shown-plain}
+use Rattle.marking.proofs.TwoAges.{unheld-plain}
 use Rattle.locale.specs.Locale.{legacyWords, newWords, localeWords}
 use Rattle.places.specs.Places.{placesOf, textOf}
 
@@ -19,5 +19,5 @@ unfolding textOf placesOf localeWords newWords legacyWords
 size-never r n = refl
 
 -- the text of a record that isn't held back at an age is the plain text
-pub shown-text : (a : ℕ) (s : List ℕ) → isAge a ≡ true → taken s ≤ length s → heldBack a s ≡ false → textOf (aged a s) ≡ textOf (plain s)
-shown-text a s h k e = ap textOf (shown-plain a s h k e)
+pub unheld-text : (a : ℕ) (s : List ℕ) → isAge a ≡ true → taken s ≤ length s → heldBack a s ≡ false → textOf (aged a s) ≡ textOf (plain s)
+unheld-text a s h k e = ap textOf (unheld-plain a s h k e)

@@ -5,9 +5,9 @@ use answers::Written;
 use buffer::write;
 use marking::late_bytes;
 use places_all::put_text;
-use reading::amount;
 use reading::parse;
 use reading::parse_aged;
+use reading::take;
 use record::Age;
 use record::ResTableConfig;
 ghost use mathlib.Core.Path.{_≡_};
@@ -19,28 +19,28 @@ ghost use Rattle.text.specs.Text.{plainText, agedText};
 pub const LONGEST_TEXT: usize = 344;
 
 // Writes the text of a record, as 000's `as_string` has it. Where out has room for any text it is put there at once.
-pub fn as_string(out: &mut [u8], r: ResTableConfig) -> Written
+pub fn as_string(r: ResTableConfig, out: &mut [u8]) -> Written
     ensures { λ n. ⌜ outcome n (now (out .exit)) ≡ written (textOf r) (now (out .entry)) ⌝ }
 {
     if LONGEST_TEXT <= out.len() {
-        let n = put_text(out, r);
+        let n = put_text(r, out);
         return Written::Wrote(n);
     }
     let mut own = [0u8; LONGEST_TEXT];
-    let n = put_text(&mut own, r);
-    write(out, &own[..n])
+    let n = put_text(r, &mut own);
+    write(&own[..n], out)
 }
 
 // Writes the plain text of the record at the front of bytes.
 pub fn plain_text(bytes: &[u8], out: &mut [u8]) -> Written
     ensures { λ r. ⌜ outcome r (now (out .exit)) ≡ plainText (now (bytes .entry)) (now (out .entry)) ⌝ }
 {
-    match amount(bytes) {
+    match take(bytes) {
         Taken::Refused(refusal) => Written::Refused(refusal),
         Taken::Took(_) => {
             let parsed = parse(bytes);
             let record = parsed.record;
-            as_string(out, record)
+            as_string(record, out)
         }
     }
 }
@@ -52,7 +52,7 @@ pub fn aged_text(bytes: &[u8], age: Age, out: &mut [u8]) -> Written
     if !age.is_age() {
         return Written::Refused(Refusal::NotAnAge);
     }
-    match amount(bytes) {
+    match take(bytes) {
         Taken::Refused(why) => Written::Refused(why),
         Taken::Took(taken) => {
             if late_bytes(bytes, taken, age.0 as usize) {
@@ -60,7 +60,7 @@ pub fn aged_text(bytes: &[u8], age: Age, out: &mut [u8]) -> Written
             }
             let parsed = parse_aged(bytes, age);
             let record = parsed.record;
-            as_string(out, record)
+            as_string(record, out)
         }
     }
 }

@@ -8,34 +8,34 @@ ghost use Rattle.buffer.specs.Written.{outcome, written};
 ghost use Rattle.words.specs.Words.{wordsOf};
 
 // Puts the words of a kind. Machinery: it stops at the buffer's end and refuses nothing.
-pub fn put_words(out: &mut [u8], at: usize, kind: Kind) -> usize
+pub fn put_words(kind: Kind, at: usize, out: &mut [u8]) -> usize
     ensures { λ r. ⌜ Put (now (out .entry)) at (wordsOf kind) (now (out .exit)) r ⌝ }
 {
     match kind {
-        Kind::GrammaticalGender(k) => words_mode::put_grammatical_gender(out, at, k),
-        Kind::LayoutDir(k) => words_layout::put_layout_dir(out, at, k),
-        Kind::ScreenSize(k) => words_layout::put_screen_size(out, at, k),
-        Kind::ScreenLong(k) => words_layout::put_screen_long(out, at, k),
-        Kind::ScreenRound(k) => words_layout::put_screen_round(out, at, k),
-        Kind::WideColorGamut(k) => words_screen::put_wide_color_gamut(out, at, k),
-        Kind::Hdr(k) => words_screen::put_hdr(out, at, k),
-        Kind::Orientation(k) => words_screen::put_orientation(out, at, k),
-        Kind::UIMode(k) => words_mode::put_ui_mode(out, at, k),
-        Kind::UIModeNight(k) => words_mode::put_ui_mode_night(out, at, k),
-        Kind::Density(k) => words_screen::put_density(out, at, k),
-        Kind::Touchscreen(k) => words_input::put_touchscreen(out, at, k),
-        Kind::KeysHidden(k) => words_input::put_keys_hidden(out, at, k),
-        Kind::Keyboard(k) => words_input::put_keyboard(out, at, k),
-        Kind::NavHidden(k) => words_input::put_nav_hidden(out, at, k),
-        Kind::Navigation(k) => words_input::put_navigation(out, at, k),
+        Kind::GrammaticalGender(k) => words_mode::put_grammatical_gender(k, at, out),
+        Kind::LayoutDir(k) => words_layout::put_layout_dir(k, at, out),
+        Kind::ScreenSize(k) => words_layout::put_screen_size(k, at, out),
+        Kind::ScreenLong(k) => words_layout::put_screen_long(k, at, out),
+        Kind::ScreenRound(k) => words_layout::put_screen_round(k, at, out),
+        Kind::WideColorGamut(k) => words_screen::put_wide_color_gamut(k, at, out),
+        Kind::Hdr(k) => words_screen::put_hdr(k, at, out),
+        Kind::Orientation(k) => words_screen::put_orientation(k, at, out),
+        Kind::UIMode(k) => words_mode::put_ui_mode(k, at, out),
+        Kind::UIModeNight(k) => words_mode::put_ui_mode_night(k, at, out),
+        Kind::Density(k) => words_screen::put_density(k, at, out),
+        Kind::Touchscreen(k) => words_input::put_touchscreen(k, at, out),
+        Kind::KeysHidden(k) => words_input::put_keys_hidden(k, at, out),
+        Kind::Keyboard(k) => words_input::put_keyboard(k, at, out),
+        Kind::NavHidden(k) => words_input::put_nav_hidden(k, at, out),
+        Kind::Navigation(k) => words_input::put_navigation(k, at, out),
     }
 }
 
 // Writes the words of a kind to the front of out; where out is shorter, it is left as it is.
-pub fn write_words(out: &mut [u8], kind: Kind) -> Written
+pub fn write_words(kind: Kind, out: &mut [u8]) -> Written
     ensures { λ r. ⌜ outcome r (now (out .exit)) ≡ written (wordsOf kind) (now (out .entry)) ⌝ }
 {
     let mut own = [0u8; 32];
-    let n = put_words(&mut own, 0, kind);
-    write(out, &own[..n])
+    let n = put_words(kind, 0, &mut own);
+    write(&own[..n], out)
 }

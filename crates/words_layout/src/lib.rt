@@ -11,47 +11,47 @@ ghost use Rattle.buffer.specs.Put.{Put};
 ghost use Rattle.words_layout.specs.Layout.{layoutDirWords, screenSizeWords, screenLongWords, screenRoundWords};
 
 // Puts the words of a LayoutDir.
-pub fn put_layout_dir(out: &mut [u8], at: usize, kind: LayoutDir) -> usize
+pub fn put_layout_dir(kind: LayoutDir, at: usize, out: &mut [u8]) -> usize
     ensures { λ r. ⌜ Put (now (out .entry)) at (layoutDirWords kind) (now (out .exit)) r ⌝ }
 {
     match kind {
-        LayoutDir::Ltr => put(out, at, b"ldltr"),
-        LayoutDir::Rtl => put(out, at, b"ldrtl"),
-        LayoutDir::Any(v) => put_label(out, at, b"layoutDir=", v as u64),
+        LayoutDir::Ltr => put(b"ldltr", at, out),
+        LayoutDir::Rtl => put(b"ldrtl", at, out),
+        LayoutDir::Any(v) => put_label(b"layoutDir=", v as u64, at, out),
     }
 }
 
 // Puts the words of a ScreenSize.
-pub fn put_screen_size(out: &mut [u8], at: usize, kind: ScreenSize) -> usize
+pub fn put_screen_size(kind: ScreenSize, at: usize, out: &mut [u8]) -> usize
     ensures { λ r. ⌜ Put (now (out .entry)) at (screenSizeWords kind) (now (out .exit)) r ⌝ }
 {
     match kind {
-        ScreenSize::Small => put(out, at, b"small"),
-        ScreenSize::Normal => put(out, at, b"normal"),
-        ScreenSize::Large => put(out, at, b"large"),
-        ScreenSize::XLarge => put(out, at, b"xlarge"),
-        ScreenSize::Any(v) => put_label(out, at, b"screenLayoutSize=", v as u64),
+        ScreenSize::Small => put(b"small", at, out),
+        ScreenSize::Normal => put(b"normal", at, out),
+        ScreenSize::Large => put(b"large", at, out),
+        ScreenSize::XLarge => put(b"xlarge", at, out),
+        ScreenSize::Any(v) => put_label(b"screenLayoutSize=", v as u64, at, out),
     }
 }
 
 // Puts the words of a ScreenLong.
-pub fn put_screen_long(out: &mut [u8], at: usize, kind: ScreenLong) -> usize
+pub fn put_screen_long(kind: ScreenLong, at: usize, out: &mut [u8]) -> usize
     ensures { λ r. ⌜ Put (now (out .entry)) at (screenLongWords kind) (now (out .exit)) r ⌝ }
 {
     match kind {
-        ScreenLong::No => put(out, at, b"notlong"),
-        ScreenLong::Yes => put(out, at, b"long"),
-        ScreenLong::Any(v) => put_label(out, at, b"screenLayoutLong=", v as u64),
+        ScreenLong::No => put(b"notlong", at, out),
+        ScreenLong::Yes => put(b"long", at, out),
+        ScreenLong::Any(v) => put_label(b"screenLayoutLong=", v as u64, at, out),
     }
 }
 
 // Puts the words of a ScreenRound.
-pub fn put_screen_round(out: &mut [u8], at: usize, kind: ScreenRound) -> usize
+pub fn put_screen_round(kind: ScreenRound, at: usize, out: &mut [u8]) -> usize
     ensures { λ r. ⌜ Put (now (out .entry)) at (screenRoundWords kind) (now (out .exit)) r ⌝ }
 {
     match kind {
-        ScreenRound::No => put(out, at, b"notround"),
-        ScreenRound::Yes => put(out, at, b"round"),
-        ScreenRound::Any(v) => put_label(out, at, b"screenRound=", v as u64),
+        ScreenRound::No => put(b"notround", at, out),
+        ScreenRound::Yes => put(b"round", at, out),
+        ScreenRound::Any(v) => put_label(b"screenRound=", v as u64, at, out),
     }
 }

@@ -22,7 +22,7 @@ use Rattle.reading.specs.Reading.{reads}
 use Rattle.record.specs.Shape.{Shaped}
 use Rattle.writing.specs.Writing.{bytesOf, span, bytesWritten, keeps, tidy, writeOf}
 use Rattle.writing.specs.Demand1.{unreadField, Stray, UntidyWhenStray, WriterRefuses}
-use Rattle.writing.proofs.Places.{written-long}
+use Rattle.writing.proofs.Offsets.{written-long}
 
 -- a field that isn't read, and isn't zero
 pub unread-is : (r : ResTableConfig) (old : List ℕ) → tidy r ≡ false → writeOf r old ≡ refused Refusal.UnreadField old
@@ -57,7 +57,7 @@ unfolding tidy
 stray r e =
     let w = each-spot 15 (keeps r) e in
     let p = or-neither (w .gives) in
-    record { field = w .place; within = w .within; skipped = p .0; filled = p .1 }
+    record { field = w .spot; within = w .within; skipped = p .0; filled = p .1 }
 
 untidy : (r : ResTableConfig) → Stray r → tidy r ≡ false
 unfolding tidy

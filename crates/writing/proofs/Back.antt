@@ -20,7 +20,7 @@ use Rattle.record.specs.Shape.{Shaped}
 use Rattle.writing.specs.Writing.{bytes4, bytesOf, span, tidy, bytesWritten}
 use Rattle.writing.specs.Demand2.{ReadsBack}
 use Rattle.writing.proofs.Answers.{wrote-is, unread-zero, took-tidy}
-use Rattle.writing.proofs.Places.{bytes-long, written-in, written-long}
+use Rattle.writing.proofs.Offsets.{bytes-long, written-in, written-long}
 use Rattle.writing.proofs.Zeros.{zeros-of}
 
 -- a word that is written is read again

@@ -57,7 +57,7 @@ pub examples :
     -- past 64 there are zeros
     × (writeOf (sample 65 latin (replicate 8 0) false) (sevens 66)
     ≡ record { tells = success 65; leaves = 65 ∷ 0 ∷ 0 ∷ 0 ∷ 54 ∷ 1 ∷ replicate 30 0 ++ latin ++ replicate 25 0 ++ sevens 1 })
-    -- the places that are in a read field, and that aren't
+    -- the offsets that are in a read field, and that aren't
     × (decoded 44 39 ≡ true)
     × (decoded 44 40 ≡ false)
     × (decoded 3 15 ≡ true)

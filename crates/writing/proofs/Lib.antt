@@ -3,7 +3,7 @@ pub mod Arms
 pub mod Held
 pub mod Laid
 pub mod Order
-pub mod Places
+pub mod Offsets
 pub mod Answers
 pub mod OneOutcome
 pub mod Back

@@ -1,4 +1,4 @@
--- The table's order, and places in fields. Assumes nothing.
+-- The table's order, and offsets in fields. Assumes nothing.
 use Prim.Native.Nat.{ℕ, _≤_, _<_}
 use mathlib.Core.Path.{_≡_}
 use mathlib.Core.Bool.{true}

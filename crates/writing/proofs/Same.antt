@@ -21,7 +21,7 @@ use Rattle.writing.specs.Demand2.{SameBytes, WritesBack}
 use Rattle.writing.proofs.Zeros.{all-zeros}
 use Rattle.writing.proofs.Bytes.{part-bytes, zeros-bytes, word-back, yes-back, bit-most}
 use Rattle.writing.proofs.Order.{in-says}
-use Rattle.writing.proofs.Places.{written-in, written-out, written-long}
+use Rattle.writing.proofs.Offsets.{written-in, written-out, written-long}
 use Rattle.writing.proofs.Answers.{wrote-is}
 
 -- s: bytes, with a whole record at their front
@@ -109,9 +109,9 @@ module _ (s : List ℕ) (small : Bytes s) (whole : taken s ≤ length s) where
   out-none : (k : ℕ) → decoded (sizeOf s) k ≡ false → getD (bytesWritten (plain s)) k 0 ≡ 0
   out-none k e = written-out (plain s) (shaped-plain s whole) k (ap (λ (m : ℕ). decoded m k) same-size ∙ e)
 
-  in-place : (k : ℕ) → Low → Spot 15 (λ f. held f && inField k f) true → getD (bytesWritten (plain s)) k 0 ≡ getD s k 0
-  in-place k c w =
-      let f = w .place in
+  in-field : (k : ℕ) → Low → Spot 15 (λ f. held f && inField k f) true → getD (bytesWritten (plain s)) k 0 ≡ getD s k 0
+  in-field k c w =
+      let f = w .spot in
       let p = and-both (w .gives) in
       let i = in-says k f (p .1) in
       out-in k f (w .within) (p .0) (i .0) (i .1)
@@ -120,7 +120,7 @@ module _ (s : List ℕ) (small : Bytes s) (whole : taken s ≤ length s) where
 
   kept-by : Kept s → (k : ℕ) → k < taken s → (b : Bool) → decoded (sizeOf s) k ≡ b → getD (bytesWritten (plain s)) k 0 ≡ getD s k 0
   unfolding decoded
-  kept-by w k h true e = in-place k (w .computed) (some-spot 15 (λ f. held f && inField k f) e)
+  kept-by w k h true e = in-field k (w .computed) (some-spot 15 (λ f. held f && inField k f) e)
   kept-by w k h false e = out-none k e ∙ sym (w .skipped k h e)
 
   kept-then : Kept s → bytesWritten (plain s) ≡ take (taken s) s
@@ -130,18 +130,18 @@ module _ (s : List ℕ) (small : Bytes s) (whole : taken s ≤ length s) where
       kept-by w k h (decoded (sizeOf s) k) refl ∙ sym (getD-take (taken s) s k 0 h))
 
   module _ (e : bytesWritten (plain s) ≡ take (taken s) s) where
-    at-place : (k : ℕ) → k < taken s → getD s k 0 ≡ getD (bytesWritten (plain s)) k 0
-    at-place k h = sym (getD-take (taken s) s k 0 h) ∙ ap (λ (l : List ℕ). getD l k 0) (sym e)
+    at-offset : (k : ℕ) → k < taken s → getD s k 0 ≡ getD (bytesWritten (plain s)) k 0
+    at-offset k h = sym (getD-take (taken s) s k 0 h) ∙ ap (λ (l : List ℕ). getD l k 0) (sym e)
 
     low : Low
     unfolding bytesOf
     low t =
         let b = plain s .«locale_script_was_computed» in
-        let g : getD s 52 0 ≡ bit b = at-place 52 (omega (arith, end-within (sizeOf s) 12 (lit< tt) t)) ∙ out-in 52 12 (lit< tt) t (omega arith) (omega arith) in
+        let g : getD s 52 0 ≡ bit b = at-offset 52 (omega (arith, end-within (sizeOf s) 12 (lit< tt) t)) ∙ out-in 52 12 (lit< tt) t (omega arith) (omega arith) in
         rw g (bit-most b)
 
     then-kept : Kept s
-    then-kept = record { skipped = λ k h d. at-place k h ∙ out-none k d; computed = low }
+    then-kept = record { skipped = λ k h d. at-offset k h ∙ out-none k d; computed = low }
 
   -- the T bytes that the record read from s is written as are those of s exactly when s says no more than the record
   pub exactly : (bytesWritten (plain s) ≡ take (taken s) s) ↔ Kept s

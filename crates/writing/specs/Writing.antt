@@ -66,11 +66,11 @@ tidy r = eachBelow 15 (keeps r)
 unfoldable pub writeOf : ResTableConfig → List ℕ → Outcome
 writeOf r old = cond (tidy r) (written (bytesWritten r) old) (refused Refusal.UnreadField old)
 
--- place k lies in field f
+-- offset k lies in field f
 abbrev pub inField : ℕ → ℕ → Bool
 inField k f = leb (startOf f) k && ltb k (endOf f)
 
--- place k lies in a field that is read at that size
+-- offset k lies in a field that is read at that size
 unfoldable pub decoded : ℕ → ℕ → Bool
 decoded size k = someBelow 15 (λ f. reads size f && inField k f)
 

@@ -21,8 +21,8 @@ pub(crate) fn shape(r: ResTableConfig)
     ensures { λ _. ⌜ Shaped r ⌝ }
 {}
 
-// Puts the first n bytes of x into out, from place at on.
-fn put_at(out: &mut [u8], at: usize, x: &[u8], n: usize)
+// Puts the first n bytes of x into out, from offset at on.
+fn put_at(x: &[u8], n: usize, at: usize, out: &mut [u8])
     requires { ⌜ (at + n ≤ length (now out)) × (n ≤ length (now x)) ⌝ }
     ensures { λ _. ⌜ now (out .exit) ≡ paste (now (out .entry)) at (now (x .entry)) n ⌝ }
 {
@@ -34,7 +34,7 @@ fn put_at(out: &mut [u8], at: usize, x: &[u8], n: usize)
 }
 
 // Makes the first t bytes zero.
-fn clear(out: &mut [u8], t: usize)
+fn clear(t: usize, out: &mut [u8])
     requires { ⌜ t ≤ length (now out) ⌝ }
     ensures { λ _. ⌜ now (out .exit) ≡ replicate t 0 ++ drop t (now (out .entry)) ⌝ }
 {
@@ -139,7 +139,7 @@ fn is_tidy(r: ResTableConfig, t: usize) -> bool
 }
 
 // Puts each field that is read in t bytes into t zeros.
-fn lay(out: &mut [u8], r: ResTableConfig, t: usize)
+fn lay(r: ResTableConfig, t: usize, out: &mut [u8])
     requires { ⌜ (t ≡ span r) × ((t ≤ length (now out)) × (take t (now out) ≡ replicate t 0)) ⌝ }
     ensures { λ _. ⌜ now (out .exit) ≡ bytesWritten r ++ drop t (now (out .entry)) ⌝ }
 {
@@ -149,14 +149,14 @@ fn lay(out: &mut [u8], r: ResTableConfig, t: usize)
         if end <= t {
             let start = STARTS[f];
             let x = field_of(r, f);
-            put_at(out, start, &x, end - start);
+            put_at(&x, end - start, start, out);
         }
         f += 1;
     }
 }
 
 // Writes a record that takes t bytes.
-fn write_long(r: ResTableConfig, out: &mut [u8], t: usize) -> Written
+fn write_long(r: ResTableConfig, t: usize, out: &mut [u8]) -> Written
     requires { ⌜ t ≡ span r ⌝ }
     ensures { λ w. ⌜ outcome w (now (out .exit)) ≡ writeOf r (now (out .entry)) ⌝ }
 {
@@ -164,8 +164,8 @@ fn write_long(r: ResTableConfig, out: &mut [u8], t: usize) -> Written
         if out.len() < t {
             return Written::Refused(Refusal::ShortBuffer);
         }
-        clear(out, t);
-        lay(out, r, t);
+        clear(t, out);
+        lay(r, t, out);
         Written::Wrote(t)
     } else {
         Written::Refused(Refusal::UnreadField)
@@ -178,8 +178,8 @@ pub fn write(r: ResTableConfig, out: &mut [u8]) -> Written
 {
     let size = r.size as usize;
     if size < 16 {
-        write_long(r, out, 16)
+        write_long(r, 16, out)
     } else {
-        write_long(r, out, size)
+        write_long(r, size, out)
     }
 }

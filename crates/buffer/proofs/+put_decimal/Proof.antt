@@ -13,7 +13,7 @@ use Rattle.buffer.proofs.+put_decimal.{statement}
 use Rattle.buffer.proofs.+put_decimal.Tie.{close}
 
 abbrev μ-put-decimal : Measures 1 put-decimal-kinds.ps ℕ
-μ-put-decimal κs a = a .1 .1 .0
+μ-put-decimal κs a = a .0
 
 abbrev put-decimal-at : ℕ → In 1 put-decimal-kinds.ps
 put-decimal-at t =
@@ -40,6 +40,6 @@ pub +put-decimal-spec : {M : Type 1} → statement M
     (λ c.
     let put-byte = c .before .before in
     let out = put-byte .before .before .before in
-    let put-decimal-at = out .before in
-    let if1 = put-decimal-at .before .before in
-    rw (decimal-more _ (if1 .if1 .left)) (put-put (put-decimal-at .put-decimal .ensures) (put-byte .put-byte2 .ensures)))
+    let put-decimal = out .before in
+    let if1 = put-decimal .before .before in
+    rw (decimal-more _ (if1 .if1 .left)) (put-put (put-decimal .put-decimal .ensures) (put-byte .put-byte2 .ensures)))

@@ -11,10 +11,10 @@ use Rattle.buffer.proofs.put.Statement.{statement}
 use Rattle.buffer.proofs.put.Tie as tie
 
 abbrev Inv-loop : tie.InvT-loop
-Inv-loop out₀ at word o₀ j₀ out o j = (j ≤ length word) × (length out ≡ length out₀) × Put out₀ at (take j word) out o
+Inv-loop word at out₀ o₀ j₀ out o j = (j ≤ length word) × (length out ≡ length out₀) × Put out₀ at (take j word) out o
 
 abbrev μ-loop : tie.MeasureT-loop
-μ-loop out₀ at word o₀ j₀ out o j = length word - j
+μ-loop word at out₀ o₀ j₀ out o j = length word - j
 
 loop-again : tie.Need-loop-again Inv-loop μ-loop
 loop-again c =
@@ -33,4 +33,4 @@ put-spec =
     (λ c. omega arith) (λ c κs. search needs) (λ c. omega arith) (λ c. omega arith)
     loop-again
     (λ c. omega arith)
-    (λ c. put-all _ (c .before .loop .j) (omega arith) (c .before .loop .inv .2)))
+    (λ c. let loop = c .before in put-all _ (loop .loop .j) (omega arith) (loop .loop .inv .2)))

@@ -9,5 +9,5 @@ pub write-spec : {M : Type 1} → statement M
 write-spec =
     tie.close
     (tie.spec (λ c κs. tt) (λ c. search needs)
-    (λ c. put-written (search needs) (c .before .before .put .ensures))
+    (λ c. let put = c .before .before in put-written (search needs) (put .put .ensures))
     (λ c. sym (written-short _ _ (search needs))))

@@ -11,11 +11,15 @@ returns c = simp (le-leb _ _ (c .if1 .taken))
 
 returns-2 : tie.Need-returns-2
 unfolding unpacked
-returns-2 c = simp (lt-leb _ _ (c .before .if1 .left), eq-eqb _ _ (c .if2 .taken))
+returns-2 c =
+    let if1 = c .before in
+    simp (lt-leb _ _ (if1 .if1 .left), eq-eqb _ _ (c .if2 .taken))
 
 returns-3 : tie.Need-returns-3
 unfolding unpacked
-returns-3 c = simp (lt-leb _ _ (c .before .if1 .left), ne-eqb _ _ (c .if2 .left))
+returns-3 c =
+    let if1 = c .before in
+    simp (lt-leb _ _ (if1 .if1 .left), ne-eqb _ _ (c .if2 .left))
 
 pub unpack-language-or-region-spec : {M : Type 1} → statement M
 unpack-language-or-region-spec =

@@ -22,7 +22,11 @@ pub write-language-spec : {M : Type 1} → statement M
 write-language-spec =
     tie.close
     (tie.spec
-    (λ c. search needs) (λ c κs. tt) (λ c. put-most (c .before .before .put-language .ensures) (search needs) .1)
-    (λ c. sym (length-take-le _ _ (put-most (c .before .before .before .put-language .ensures) (search needs) .1))) (λ c κs. tt)
+    (λ c. search needs) (λ c κs. tt)
+    (λ c. let put-language = c .before in put-most (put-language .put-language .ensures) (search needs) .1)
+    (λ c.
+    let put-language = c .before .before in
+    sym (length-take-le _ _ (put-most (put-language .put-language .ensures) (search needs) .1)))
+    (λ c κs. tt)
     (λ c. search needs)
     returns)

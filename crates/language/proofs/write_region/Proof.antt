@@ -22,7 +22,9 @@ pub write-region-spec : {M : Type 1} → statement M
 write-region-spec =
     tie.close
     (tie.spec
-    (λ c. search needs) (λ c κs. tt) (λ c. put-most (c .before .before .put-region .ensures) (search needs) .1)
-    (λ c. sym (length-take-le _ _ (put-most (c .before .before .before .put-region .ensures) (search needs) .1))) (λ c κs. tt)
+    (λ c. search needs) (λ c κs. tt)
+    (λ c. let put-region = c .before in put-most (put-region .put-region .ensures) (search needs) .1)
+    (λ c. let put-region = c .before .before in sym (length-take-le _ _ (put-most (put-region .put-region .ensures) (search needs) .1)))
+    (λ c κs. tt)
     (λ c. search needs)
     returns)

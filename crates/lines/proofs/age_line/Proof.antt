@@ -17,8 +17,9 @@ returns c =
     let write = c .before .before in
     let own = write .before .before .before in
     let put-between = own .before in
-    let put-between-arg = put-between .before .before .before in
-    let start = put-between-arg .before .before .before in
+    let put-between-arg2 = put-between .before .before in
+    let put-between-arg = put-between-arg2 .before .before in
+    let start = put-between-arg .before .before in
     let a = start .args .age .0 in
     let l = age-long 9 a (decimal-long 9 a (omega arith)) in
     write .write .ensures ∙ copied _ (omega (arith, l)) (put-between .put-between .ensures)
@@ -28,7 +29,9 @@ age-line-spec =
     tie.close
     (tie.spec
     (λ c. search needs) (λ c. search needs) (λ c. search needs) (λ c. search needs) (λ c κs. search needs)
-    (λ c. put-most (c .before .before .put-between .ensures) (search needs) .1)
-    (λ c. sym (length-take-le _ _ (put-most (c .before .before .before .put-between .ensures) (search needs) .1)))
+    (λ c. let put-between = c .before in put-most (put-between .put-between .ensures) (search needs) .1)
+    (λ c.
+    let put-between = c .before .before in
+    sym (length-take-le _ _ (put-most (put-between .put-between .ensures) (search needs) .1)))
     (λ c κs. search needs) (λ c. search needs)
     returns)

@@ -10,5 +10,5 @@ go-on-spec =
     tie.close
     (tie.spec
     (λ c. search needs) (λ c. search needs)
-    (λ c. (sym (c .before .answer .given .1), rw (c .before .answer .given .1)))
-    (λ c. (sym (c .before .answer2 .given .1), rw (c .before .answer2 .given .1, refused-number _))))
+    (λ c. let answer = c .before in (sym (answer .answer .given .1), rw (answer .answer .given .1)))
+    (λ c. let answer = c .before in (sym (answer .answer2 .given .1), rw (answer .answer2 .given .1, refused-number _))))

@@ -47,7 +47,7 @@ line-spec =
     tie.close
     (tie.spec
     (λ c. too-much _ _ _ _ (c .if1 .taken)) (λ c κs. search needs)
-    (λ c. no-age _ _ _ _ (search needs) (sym (not-true _ (c .if2 .taken)) ∙ c .before .is-age .ensures))
+    (λ c. let is-age = c .before in no-age _ _ _ _ (search needs) (sym (not-true _ (c .if2 .taken)) ∙ is-age .is-age .ensures))
     (λ c. search needs) (λ c κs. search needs) (λ c κs. search needs) (λ c. search needs)
     (λ c κs.
     let match = c .before .before .before in

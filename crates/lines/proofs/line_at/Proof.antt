@@ -6,7 +6,7 @@ use native.Mathlib.Omega.{arith}
 use denote.Ref.{now}
 use borrow.Author.Needs.{needs}
 use Rattle.buffer.specs.Written.{written}
-use Rattle.runs.proofs.Rest.{rest-is}
+use Rattle.laws.proofs.Lists.{rest-is}
 use Rattle.runs.proofs.Records.{front-within}
 use Rattle.record_line.specs.RecordLine.{lineIn}
 use Rattle.lines.proofs.Cases.{past-offset, record-went, stop-went}

@@ -16,12 +16,12 @@ returns : tie.Need-returns
 unfolding stopLine
 returns c =
     let write = c .before .before in
-    let own6 = write .before .before .before in
-    let put-byte = own6 .before in
+    let own = write .before .before .before in
+    let put-byte = own .before in
     let put-decimal = put-byte .before .before .before in
     let put-between = put-decimal .before .before .before in
-    let own = put-between .before .before .before in
-    let told = own .before in
+    let put-between-arg = put-between .before .before .before in
+    let told = put-between-arg .before in
     let start = told .before .before in
     let a = start .args in
     let n = ap (λ (t : Told). t .number) (told .told .ensures) in
@@ -37,13 +37,13 @@ stop-line-spec =
     (λ c κs. tt) (λ c. search needs) (λ c. search needs) (λ c. search needs) (λ c κs. search needs) (λ c. search needs) (λ c. search needs)
     (λ c κs. search needs) (λ c. search needs) (λ c κs. search needs)
     (λ c.
-    let put-byte = c .before .before in
+    let put-byte = c .before in
     let put-decimal = put-byte .before .before .before in
     let put-between = put-decimal .before .before .before in
     put-most (put-put (put-put (put-between .put-between .ensures) (put-decimal .put-decimal .ensures)) (put-byte .put-byte .ensures))
     (search needs) .1)
     (λ c.
-    let put-byte = c .before .before .before in
+    let put-byte = c .before .before in
     let put-decimal = put-byte .before .before .before in
     let put-between = put-decimal .before .before .before in
     sym (length-take-le _ _

@@ -6,7 +6,9 @@ pub is-new-spec : {M : Type 1} → statement M
 is-new-spec =
     tie.close
     (tie.spec
-    (λ c κs. tt) (λ c. rw (← c .before .script-provided .ensures, c .if1 .taken)) (λ c κs. tt)
+    (λ c κs. tt)
+    (λ c. let script-provided = c .before in rw (← script-provided .script-provided .ensures, c .if1 .taken))
+    (λ c κs. tt)
     (λ c.
     let eight-begin = c .before in
     let if1 = eight-begin .before .before in

@@ -8,4 +8,5 @@ pub script-provided-spec : {M : Type 1} → statement M
 script-provided-spec =
     tie.close
     (tie.spec
-    (λ c. search needs) (λ c. simp (eq-eqb _ _ (c .if1 .taken))) (λ c. simp (ne-eqb _ _ (c .before .if1 .left))))
+    (λ c. search needs) (λ c. simp (eq-eqb _ _ (c .if1 .taken)))
+    (λ c. let if1 = c .before in simp (ne-eqb _ _ (if1 .if1 .left))))

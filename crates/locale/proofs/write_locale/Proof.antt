@@ -15,14 +15,16 @@ returns c =
     let own = write .before .before .before in
     let put-said = own .before in
     let start = put-said .before .before .before in
-    let l = text-long (start .args .r) _ (start .good .1 .0) in
+    let l = text-long (start .args .r) _ (start .good .0) in
     write .write .ensures ∙ copied _ (omega (arith, l)) (put-said .put-said .ensures)
 
 pub write-locale-spec : {M : Type 1} → statement M
 write-locale-spec =
     tie.close
     (tie.spec
-    (λ c. search needs) (λ c κs. tt) (λ c. put-most (c .before .before .put-said .ensures) (search needs) .1)
-    (λ c. sym (length-take-le _ _ (put-most (c .before .before .before .put-said .ensures) (search needs) .1))) (λ c κs. tt)
+    (λ c. search needs) (λ c κs. tt)
+    (λ c. let put-said = c .before in put-most (put-said .put-said .ensures) (search needs) .1)
+    (λ c. let put-said = c .before .before in sym (length-take-le _ _ (put-most (put-said .put-said .ensures) (search needs) .1)))
+    (λ c κs. tt)
     (λ c. search needs)
     returns)

@@ -1,4 +1,4 @@
--- 3, then the refusals of `amount`, then what the bytes say. Assumes nothing.
+-- 3, then the refusals of `take`, then what the bytes say. Assumes nothing.
 use mathlib.Core.Path.{sym, ap, _∙_}
 use mathlib.Core.Bool.{true, false}
 use borrow.Author.Needs.{needs}
@@ -17,39 +17,39 @@ returns-2 : tie.Need-returns-2
 returns-2 c =
     let late-bytes = c .before in
     let n-at = late-bytes .before .before .before in
-    let amount = n-at .before .before in
-    let if1 = amount .before in
+    let taking = n-at .before .before in
+    let if1 = taking .before in
     let is-age = if1 .before in
     let start = is-age .before .before in
     let s = now (start .args .bytes) in
     let n = n-at .n .given in
     held-said _ s (n .0 .0) true (sym (not-false _ (if1 .if1 .left)) ∙ is-age .is-age .ensures)
-    (sym (ap takenTells (n .1)) ∙ amount .amount .ensures) (sym (c .if2 .taken) ∙ late-bytes .late-bytes .ensures)
+    (sym (ap takenTells (n .1)) ∙ taking .take .ensures) (sym (c .if2 .taken) ∙ late-bytes .late-bytes .ensures)
 
 returns-3 : tie.Need-returns-3
 returns-3 c =
     let late-bytes = c .before in
     let n-at = late-bytes .before .before .before in
-    let amount = n-at .before .before in
-    let if1 = amount .before in
+    let taking = n-at .before .before in
+    let if1 = taking .before in
     let is-age = if1 .before in
     let start = is-age .before .before in
     let s = now (start .args .bytes) in
     let n = n-at .n .given in
     held-said _ s (n .0 .0) false (sym (not-false _ (if1 .if1 .left)) ∙ is-age .is-age .ensures)
-    (sym (ap takenTells (n .1)) ∙ amount .amount .ensures) (sym (c .if2 .left) ∙ late-bytes .late-bytes .ensures)
+    (sym (ap takenTells (n .1)) ∙ taking .take .ensures) (sym (c .if2 .left) ∙ late-bytes .late-bytes .ensures)
 
 returns-4 : tie.Need-returns-4
 returns-4 c =
     let why = c .before in
-    let amount = why .before .before in
-    let if1 = amount .before in
+    let taking = why .before .before in
+    let if1 = taking .before in
     let is-age = if1 .before in
     let start = is-age .before .before in
     let s = now (start .args .bytes) in
     let w = why .why .given in
     sym (refuses _ s _ _ (sym (not-false _ (if1 .if1 .left)) ∙ is-age .is-age .ensures) (w .0 .0)
-    (sym (ap takenTells (w .1)) ∙ amount .amount .ensures))
+    (sym (ap takenTells (w .1)) ∙ taking .take .ensures))
 
 pub held-back-spec : {M : Type 1} → statement M
 held-back-spec =

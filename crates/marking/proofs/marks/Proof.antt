@@ -1,4 +1,4 @@
--- 3, then the refusals of `amount`, then the marks are written. Assumes nothing.
+-- 3, then the refusals of `take`, then the marks are written. Assumes nothing.
 use mathlib.Core.Path.{_≡_, sym, ap, _∙_}
 use borrow.Author.Needs.{needs}
 use borrow.Author.Tests.{not-true, not-false}
@@ -17,27 +17,27 @@ returns-2 c =
     let write = c .before .before in
     let write-marks-arg = write .before in
     let took = write-marks-arg .before .before .before in
-    let amount = took .before .before in
-    let age = amount .before in
+    let taking = took .before .before in
+    let age = taking .before in
     let is-age = age .before in
     let start = is-age .before .before .before in
     let s = now (start .args .bytes) in
     let n = took .n .given in
-    let told = sym (ap takenTells (n .1)) ∙ amount .amount .ensures in
+    let told = sym (ap takenTells (n .1)) ∙ taking .take .ensures in
     rw (gives _ s _ _ (sym (not-false _ (age .if1 .left)) ∙ is-age .is-age .ensures) (n .0 .0) told, ← took-says s (n .0 .0) told .0)
     (write .write-marks .ensures)
 
 returns-3 : tie.Need-returns-3
 returns-3 c =
     let refused = c .before in
-    let amount = refused .before .before in
-    let age = amount .before in
+    let taking = refused .before .before in
+    let age = taking .before in
     let is-age = age .before in
     let start = is-age .before .before .before in
     let s = now (start .args .bytes) in
     let w = refused .why .given in
     sym (refuses _ s _ _ (sym (not-false _ (age .if1 .left)) ∙ is-age .is-age .ensures) (w .0 .0)
-    (sym (ap takenTells (w .1)) ∙ amount .amount .ensures))
+    (sym (ap takenTells (w .1)) ∙ taking .take .ensures))
 
 pub marks-spec : {M : Type 1} → statement M
 marks-spec =

@@ -10,7 +10,7 @@ say-kind-spec =
     (tie.spec
     (λ c κs. tt) (λ c κs. tt) (λ c. search needs)
     (λ c.
-    let words = c .before .before in
-    let out = words .before .before .before in
+    let put-words = c .before .before in
+    let out = put-words .before .before .before in
     let dash = out .before in
-    put-put (dash .dash .ensures) (words .put-words .ensures)))
+    put-put (dash .dash .ensures) (put-words .put-words .ensures)))

@@ -16,14 +16,14 @@ returns c =
     let ui-mode-place = out2 .before in
     let out = ui-mode-place .before .before .before in
     let orientation-place = out .before in
-    let layout-at = orientation-place .before .before in
-    let layout = layout-at .get-screen-layout-ui-smallest-width .ensures in
-    let screen = layout-at .before .get-orientation-touchscreen-density .ensures in
+    let screen-layout-ui-smallest-width = orientation-place .before .before in
+    let orientation-touchscreen-density = screen-layout-ui-smallest-width .before in
+    let layout = screen-layout-ui-smallest-width .get-screen-layout-ui-smallest-width .ensures in
+    let screen = orientation-touchscreen-density .get-orientation-touchscreen-density .ensures in
     says-more (rw screen at (orientation-place .orientation-place .ensures))
     (says-more (rw layout at (ui-mode-place .ui-mode-place .ensures))
     (says-more (rw layout at (ui-mode-night-place .ui-mode-night-place .ensures))
-    (says-more (rw screen at (density-place .density-place .ensures))
-    (rw screen at (touchscreen-place .touchscreen-place .ensures)))))
+    (says-more (rw screen at (density-place .density-place .ensures)) (rw screen at (touchscreen-place .touchscreen-place .ensures)))))
 
 pub places-from-13-spec : {M : Type 1} → statement M
 places-from-13-spec =

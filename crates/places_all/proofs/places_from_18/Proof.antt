@@ -18,7 +18,8 @@ returns c =
     let keyboard-place = out2 .before in
     let out = keyboard-place .before .before .before in
     let keys-hidden-place = out .before in
-    let input = keys-hidden-place .before .before .get-keyboard-navigation-input-flags .ensures in
+    let keyboard-navigation-input-flags = keys-hidden-place .before .before in
+    let input = keyboard-navigation-input-flags .get-keyboard-navigation-input-flags .ensures in
     says-more (rw input at (keys-hidden-place .keys-hidden-place .ensures))
     (says-more (rw input at (keyboard-place .keyboard-place .ensures))
     (says-more (rw input at (nav-hidden-place .nav-hidden-place .ensures))

@@ -9,13 +9,15 @@ use Rattle.places_all.proofs.put_text.Tie as tie
 returns : tie.Need-returns
 unfolding placesOf textOf
 returns c =
-    let from-18 = c .before .before in
-    let b = from-18 .before .before in
-    let from-13 = b .before .before in
-    let a = from-13 .before .before in
-    let first = a .before .before in
-    let r = first .before .before .before .args .r in
-    said-more (take 13 (placesOf r)) (first .put-first .ensures) (says-both (from-13 .places-from-13 .ensures) (from-18 .places-from-18 .ensures))
+    let places-from-18 = c .before .before in
+    let out2 = places-from-18 .before .before .before in
+    let places-from-13 = out2 .before in
+    let out = places-from-13 .before .before .before in
+    let put-first = out .before in
+    let start = put-first .before .before .before in
+    let r = start .args .r in
+    said-more (take 13 (placesOf r)) (put-first .put-first .ensures)
+    (says-both (places-from-13 .places-from-13 .ensures) (places-from-18 .places-from-18 .ensures))
 
 pub put-text-spec : {M : Type 1} → statement M
 put-text-spec =

@@ -15,13 +15,13 @@ returns c =
     let label-place2 = out2 .before in
     let label-place-arg = label-place2 .before .before in
     let label-place = label-place-arg .before .before .before in
-    let gender-at = label-place .before .before .before in
-    let gender = gender-at .get-grammatical-inflection .ensures in
-    let codes = gender-at .before .get-mcc-mnc .ensures in
+    let grammatical-inflection = label-place .before .before .before in
+    let mcc-mnc = grammatical-inflection .before in
+    let gender = grammatical-inflection .get-grammatical-inflection .ensures in
+    let codes = mcc-mnc .get-mcc-mnc .ensures in
     says-more (rw codes at (label-place .label-place .ensures))
     (says-more (rw codes at (label-place2 .label-place2 .ensures))
-    (says-more (locale-place .locale-place .ensures)
-    (rw gender at (grammatical-gender-place .grammatical-gender-place .ensures))))
+    (says-more (locale-place .locale-place .ensures) (rw gender at (grammatical-gender-place .grammatical-gender-place .ensures))))
 
 pub places-from-0-spec : {M : Type 1} → statement M
 places-from-0-spec =

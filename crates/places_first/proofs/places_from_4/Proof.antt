@@ -15,13 +15,13 @@ returns c =
     let dp-place = dp-place-arg3 .before .before .before in
     let dp-place-arg = dp-place .before .before in
     let layout-dir-place = dp-place-arg .before .before .before in
-    let dp-at = layout-dir-place .before .before in
-    let dp = dp-at .get-screen-width-height-dp .ensures in
-    let layout = dp-at .before .get-screen-layout-ui-smallest-width .ensures in
+    let screen-width-height-dp = layout-dir-place .before .before in
+    let screen-layout-ui-smallest-width = screen-width-height-dp .before in
+    let dp = screen-width-height-dp .get-screen-width-height-dp .ensures in
+    let layout = screen-layout-ui-smallest-width .get-screen-layout-ui-smallest-width .ensures in
     says-more (rw layout at (layout-dir-place .layout-dir-place .ensures))
     (says-more (rw layout at (dp-place .dp-place .ensures))
-    (says-more (rw dp at (dp-place2 .dp-place2 .ensures))
-    (rw dp at (dp-place3 .dp-place3 .ensures))))
+    (says-more (rw dp at (dp-place2 .dp-place2 .ensures)) (rw dp at (dp-place3 .dp-place3 .ensures))))
 
 pub places-from-4-spec : {M : Type 1} → statement M
 places-from-4-spec =

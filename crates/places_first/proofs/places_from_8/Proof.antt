@@ -16,14 +16,14 @@ returns c =
     let screen-long-place = out2 .before in
     let out = screen-long-place .before .before .before in
     let screen-size-place = out .before in
-    let second-at = screen-size-place .before .before in
-    let second = second-at .get-screen-layout-2-color-mode .ensures in
-    let layout = second-at .before .get-screen-layout-ui-smallest-width .ensures in
+    let screen-layout-2-color-mode = screen-size-place .before .before in
+    let screen-layout-ui-smallest-width = screen-layout-2-color-mode .before in
+    let second = screen-layout-2-color-mode .get-screen-layout-2-color-mode .ensures in
+    let layout = screen-layout-ui-smallest-width .get-screen-layout-ui-smallest-width .ensures in
     says-more (rw layout at (screen-size-place .screen-size-place .ensures))
     (says-more (rw layout at (screen-long-place .screen-long-place .ensures))
     (says-more (rw second at (screen-round-place .screen-round-place .ensures))
-    (says-more (rw second at (wide-color-gamut-place .wide-color-gamut-place .ensures))
-    (rw second at (hdr-place .hdr-place .ensures)))))
+    (says-more (rw second at (wide-color-gamut-place .wide-color-gamut-place .ensures)) (rw second at (hdr-place .hdr-place .ensures)))))
 
 pub places-from-8-spec : {M : Type 1} → statement M
 places-from-8-spec =

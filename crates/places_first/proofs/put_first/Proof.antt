@@ -8,11 +8,13 @@ use Rattle.places_first.proofs.put_first.Tie as tie
 returns : tie.Need-returns
 unfolding placesOf
 returns c =
-    let from-8 = c .before .before in
-    let b = from-8 .before .before in
-    let from-4 = b .before .before in
-    let a = from-4 .before .before in
-    said-all (says-both (says-both (a .before .before .places-from-0 .ensures) (from-4 .places-from-4 .ensures)) (from-8 .places-from-8 .ensures))
+    let places-from-8 = c .before .before in
+    let out2 = places-from-8 .before .before .before in
+    let places-from-4 = out2 .before in
+    let out = places-from-4 .before .before .before in
+    let places-from-0 = out .before in
+    said-all (says-both (says-both (places-from-0 .places-from-0 .ensures) (places-from-4 .places-from-4 .ensures))
+    (places-from-8 .places-from-8 .ensures))
 
 pub put-first-spec : {M : Type 1} → statement M
 put-first-spec =

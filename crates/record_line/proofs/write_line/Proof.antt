@@ -42,7 +42,7 @@ write-line-spec =
     (λ c. search needs) (λ c κs. search needs) (λ c. search needs)
     returns
     (λ c. search needs) (λ c. search needs) (λ c κs. search needs)
-    (λ c. put-most (c .before .before .put-line2 .ensures) (search needs) .1)
-    (λ c. sym (length-take-le _ _ (put-most (c .before .before .before .put-line2 .ensures) (search needs) .1)))
+    (λ c. let put-line = c .before in put-most (put-line .put-line2 .ensures) (search needs) .1)
+    (λ c. let put-line = c .before .before in sym (length-take-le _ _ (put-most (put-line .put-line2 .ensures) (search needs) .1)))
     (λ c κs. search needs) (λ c. search needs)
     returns-2)

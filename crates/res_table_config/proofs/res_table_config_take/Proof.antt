@@ -1,4 +1,4 @@
--- What `amount` answers, told and packed. Assumes nothing.
+-- What `take` answers, told and packed. Assumes nothing.
 use mathlib.Core.Path.{_∙_}
 use Rattle.res_table_config.proofs.Small.{take-small}
 use Rattle.res_table_config.proofs.Answers.{fits}
@@ -11,7 +11,7 @@ res-table-config-take-spec =
     (tie.spec
     (λ c κs. tt) (λ c κs. tt) (λ c κs. tt)
     (λ c κs.
-    let amount = c .before in
-    let are-bytes = amount .before in
-    fits _ _ (c .told .ensures ∙ amount .amount .ensures) (take-small _ (are-bytes .are-bytes .ensures)))
-    (λ c. c .packed .ensures ∙ c .before .told .ensures ∙ c .before .before .amount .ensures))
+    let taking = c .before in
+    let are-bytes = taking .before in
+    fits _ _ (c .told .ensures ∙ taking .take .ensures) (take-small _ (are-bytes .are-bytes .ensures)))
+    (λ c. c .packed .ensures ∙ c .before .told .ensures ∙ c .before .before .take .ensures))

@@ -1,10 +1,10 @@
--- The call is that on the bytes from the place on. Assumes nothing.
+-- The call is that on the bytes from the offset on. Assumes nothing.
 use mathlib.Core.Path.{ap, _∙_}
 use mathlib.Core.List.{List}
 use Prim.Native.Nat.{ℕ}
 use denote.Ref.{now}
 use Rattle.marking.specs.Marks.{marksOutcome}
-use Rattle.runs.proofs.Rest.{rest-from}
+use Rattle.laws.proofs.Lists.{rest-from}
 use borrow.Author.Needs.{needs}
 use Rattle.runs.proofs.marks_at.Statement.{statement}
 use Rattle.runs.proofs.marks_at.Tie as tie

@@ -10,7 +10,7 @@ use Rattle.record.specs.declared.ResTableConfig.{ResTableConfig}
 use Rattle.reading.specs.Reading.{readTo}
 use Rattle.reading.proofs.Limits.{read-aged}
 use Rattle.runs.specs.Fronts.{finds}
-use Rattle.runs.proofs.Rest.{rest-is}
+use Rattle.laws.proofs.Lists.{rest-is}
 use Rattle.runs.proofs.Records.{front-fits, step-unknown, step-found, step-stopped}
 use Rattle.runs.proofs.step_at.Statement.{statement}
 use Rattle.runs.proofs.step_at.Tie as tie

@@ -54,4 +54,4 @@ fits-spec =
     let start = loop .before .before in
     let moved = front-in (start .args .src .now) (omega arith) (measure .measure .ensures) in
     (moved .1, loop .loop .inv .1 ∙ room-less _ (omega arith) (measure .measure .ensures) _ (if1 .if1 .left)))
-    (λ c. sym (c .before .loop .inv .1 ∙ room-end _ (c .before .loop .i) _ (omega arith))))
+    (λ c. let loop = c .before in sym (loop .loop .inv .1 ∙ room-end _ (loop .loop .i) _ (omega arith))))

@@ -12,7 +12,7 @@ put-front-spec =
     (tie.spec
     (λ c κs. search needs) (λ c. search needs)
     (λ c.
-    let n = c .before .before .before in
+    let n = c .before .before in
     let first = n .before .before in
     let start = first .before .before .before in
     sym (length-take-le _ _ (well-in _ (first .first .ensures) (n .n .given .1) (start .pre))))

@@ -10,10 +10,10 @@ use Rattle.subtag.proofs.put_replaced.Statement.{statement}
 use Rattle.subtag.proofs.put_replaced.Tie as tie
 
 abbrev Inv-loop : tie.InvT-loop
-Inv-loop out₀ at src o₀ i₀ out o i = (i ≤ length src) × (length out ≡ length out₀) × Completes out₀ at src out o i
+Inv-loop src at out₀ o₀ i₀ out o i = (i ≤ length src) × (length out ≡ length out₀) × Completes out₀ at src out o i
 
 abbrev μ-loop : tie.MeasureT-loop
-μ-loop out₀ at src o₀ i₀ out o i = length src - i
+μ-loop src at out₀ o₀ i₀ out o i = length src - i
 
 pub put-replaced-spec : {M : Type 1} → statement M
 put-replaced-spec =
@@ -47,4 +47,4 @@ put-replaced-spec =
     let moved = moves (start .args .src .now) (omega arith) (put-front .put-front .ensures) in
     (moved .1, omega arith, completes-more _ (omega arith) (loop .loop .inv .2) (put-front .put-front .ensures)))
     (λ c. omega arith)
-    (λ c. completes-all _ {i = c .before .loop .i} (omega arith) (c .before .loop .inv .2)))
+    (λ c. let loop = c .before in completes-all _ {i = loop .loop .i} (omega arith) (loop .loop .inv .2)))

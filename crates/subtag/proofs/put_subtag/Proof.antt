@@ -11,7 +11,7 @@ put-subtag-spec =
     tie.close
     (tie.spec
     (λ c κs. tt)
-    (λ c. sym (length-take-le _ _ (c .before .before .trim .ensures .0)))
+    (λ c. let trim = c .before in sym (length-take-le _ _ (trim .trim .ensures .0)))
     (λ c κs. tt) (λ c. search needs)
     (λ c.
     let put-replaced = c .before .before in

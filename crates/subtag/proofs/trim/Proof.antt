@@ -33,7 +33,8 @@ shared-slice-read-if1 c = omega arith
 -- src/lib.rt:139:13
 returns : tie.Need-returns Inv-loop μ-loop
 returns c =
-    let l = c .before .before .before .loop in
+    let loop = c .before .before .before in
+    let l = loop .loop in
     (omega arith, sym (l .inv .1 ∙ stays _ (l .n) (l .n - 1) (omega arith) (omega arith) (c .if1 .taken)))
 
 -- src/lib.rt:141:9
@@ -47,13 +48,15 @@ loop-less c = omega arith
 -- src/lib.rt:137:5
 loop-again : tie.Need-loop-again Inv-loop μ-loop
 loop-again c =
-    let l = c .before .before .before .loop in
+    let loop = c .before .before .before in
+    let l = loop .loop in
     (omega arith, l .inv .1 ∙ one-less _ (l .n) (l .n - 1) (omega arith) (omega arith) (c .if1 .left))
 
 -- src/lib.rt:133:1
 returns-2 : tie.Need-returns-2 Inv-loop μ-loop
 returns-2 c =
-    let l = c .before .loop in
+    let loop = c .before in
+    let l = loop .loop in
     (omega arith, sym (l .inv .1 ∙ ended _ (l .n) (omega arith)))
 
 pub trim-spec : {M : Type 1} → statement M

@@ -37,9 +37,9 @@ write-subtag-spec =
     tie.close
     (tie.spec
     (λ c κs. tt)
-    (λ c. sym (length-take-le _ _ (c .before .trim .ensures .0)))
+    (λ c. let trim = c .before in sym (length-take-le _ _ (trim .trim .ensures .0)))
     (λ c κs. tt)
-    (λ c. let fits = c .before .before .before in sym (length-take-le _ _ (fits .before .before .trim .ensures .0)))
+    (λ c. let fits-arg = c .before .before .before in sym (length-take-le _ _ (fits-arg .before .trim .ensures .0)))
     (λ c κs. tt) (λ c. search needs)
     (λ c.
     let put-replaced = c .before .before in
@@ -47,4 +47,4 @@ write-subtag-spec =
     let fits-at = if1 .before in
     let trim = fits-at .before .before in
     fits _ _ _ _ (trim .trim .ensures .1) (fits-at .fits2 .ensures) _ _ (if1 .if1 .taken) (put-replaced .put-replaced .ensures))
-    (λ c. short _ _ _ _ (c .before .before .before .trim .ensures .1) (c .before .fits2 .ensures) (c .if1 .left)))
+    (λ c. let fits = c .before in short _ _ _ _ (fits .before .before .trim .ensures .1) (fits .fits2 .ensures) (c .if1 .left)))

@@ -9,12 +9,12 @@ write-sized-spec =
     tie.close
     (tie.spec
     (λ c κs. tt) (λ c. search needs) (λ c. search needs) (λ c κs. tt) (λ c κs. tt) (λ c κs. tt)
-    (λ c. sized-refused _ _ _ _ (c .before .before .before .amount .ensures) _ (c .before .why .given .1)) (λ c. search needs)
+    (λ c. sized-refused _ _ _ _ (c .before .before .before .take .ensures) _ (c .before .why .given .1)) (λ c. search needs)
     (λ c.
     let write = c .before .before in
     let sized = write .before .before in
     let parse = sized .before .before in
     let enum-told = parse .before in
-    let amount = enum-told .before .before in
-    sized-whole _ _ _ _ (amount .amount .ensures) _ (parse .parse .result) (sized .sized .result) _ (enum-told .enum-told .given .1)
+    let taking = enum-told .before .before in
+    sized-whole _ _ _ _ (taking .take .ensures) _ (parse .parse .result) (sized .sized .result) _ (enum-told .enum-told .given .1)
     (parse .parse .ensures) (sized .sized .ensures) (write .write .ensures)))

@@ -15,7 +15,7 @@ returns c =
     let put-text = c .before .before in
     let if1 = put-text .before .before in
     let start = if1 .before .before in
-    let l = text-long (start .args .r) _ (start .good .1 .0) in
+    let l = text-long (start .args .r) _ (start .good .0) in
     put-fits (omega (arith, l)) (put-text .put-text .ensures)
 
 returns-2 : tie.Need-returns-2
@@ -25,16 +25,19 @@ returns-2 c =
     let put-text = own .before in
     let if1 = put-text .before .before in
     let start = if1 .before .before in
-    let l = text-long (start .args .r) _ (start .good .1 .0) in
+    let l = text-long (start .args .r) _ (start .good .0) in
     write .write .ensures ∙ copied _ (omega (arith, l)) (put-text .put-text2 .ensures)
 
 pub as-string-spec : {M : Type 1} → statement M
 as-string-spec =
     tie.close
     (tie.spec
-    (λ c κs. tt) (λ c. put-same (c .before .before .put-text .ensures))
+    (λ c κs. tt)
+    (λ c. let put-text = c .before .before in put-same (put-text .put-text .ensures))
     returns
-    (λ c. search needs) (λ c κs. tt) (λ c. put-most (c .before .before .put-text2 .ensures) (search needs) .1)
-    (λ c. sym (length-take-le _ _ (put-most (c .before .before .before .put-text2 .ensures) (search needs) .1))) (λ c κs. tt)
+    (λ c. search needs) (λ c κs. tt)
+    (λ c. let put-text = c .before in put-most (put-text .put-text2 .ensures) (search needs) .1)
+    (λ c. let put-text = c .before .before in sym (length-take-le _ _ (put-most (put-text .put-text2 .ensures) (search needs) .1)))
+    (λ c κs. tt)
     (λ c. search needs)
     returns-2)

@@ -9,11 +9,12 @@ plain-text-spec =
     tie.close
     (tie.spec
     (λ c κs. tt) (λ c. search needs) (λ c. search needs) (λ c κs. tt) (λ c κs. tt)
-    (λ c. plain-refused _ _ _ (c .before .before .before .amount .ensures) _ (c .before .refusal .given .1)) (λ c. search needs)
+    (λ c. let refusal = c .before in plain-refused _ _ _ (refusal .before .before .take .ensures) _ (refusal .refusal .given .1))
+    (λ c. search needs)
     (λ c.
     let as-string = c .before .before in
     let parse = as-string .before .before .before in
     let enum-told = parse .before in
-    let amount = enum-told .before .before in
-    plain-whole _ _ _ (amount .amount .ensures) _ (parse .parse .result) _ (enum-told .enum-told .given .1) (parse .parse .ensures)
+    let taking = enum-told .before .before in
+    plain-whole _ _ _ (taking .take .ensures) _ (parse .parse .result) _ (enum-told .enum-told .given .1) (parse .parse .ensures)
     (as-string .as-string .ensures)))

@@ -15,13 +15,13 @@ returns c =
     let own = write .before .before .before in
     let put-words = own .before in
     let start = put-words .before .before .before in
-    write .write .ensures ∙ copied _ (omega (arith, words-long (start .args .kind) _ (start .good .1 .0))) (put-words .put-words .ensures)
+    write .write .ensures ∙ copied _ (omega (arith, words-long (start .args .kind) _ (start .good .0))) (put-words .put-words .ensures)
 
 pub write-words-spec : {M : Type 1} → statement M
 write-words-spec =
     tie.close
     (tie.spec
     (λ c. search needs) (λ c κs. tt)
-    (λ c. put-most (c .before .before .put-words .ensures) (search needs) .1)
-    (λ c. sym (length-take-le _ _ (put-most (c .before .before .before .put-words .ensures) (search needs) .1)))
+    (λ c. let put-words = c .before in put-most (put-words .put-words .ensures) (search needs) .1)
+    (λ c. let put-words = c .before .before in sym (length-take-le _ _ (put-most (put-words .put-words .ensures) (search needs) .1)))
     (λ c κs. tt) (λ c. search needs) returns)

@@ -16,39 +16,57 @@ use Rattle.writing.proofs.field_of.Tie as tie
 
 returns : tie.Need-returns
 unfolding bytesOf
-returns c = arm (c .before .before .args .r) 0 (c .before .before .args .f) _ (omega arith) (ap (take 4) (c .word-bytes .ensures))
+returns c =
+    let start = c .before .before in
+    arm (start .args .r) 0 (start .args .f) _ (omega arith) (ap (take 4) (c .word-bytes .ensures))
 
 returns-2 : tie.Need-returns-2
 unfolding bytesOf
-returns-2 c = arm (c .before .before .args .r) 1 (c .before .before .args .f) _ (omega arith) (ap (take 4) (c .word-bytes2 .ensures))
+returns-2 c =
+    let start = c .before .before in
+    arm (start .args .r) 1 (start .args .f) _ (omega arith) (ap (take 4) (c .word-bytes2 .ensures))
 
 returns-3 : tie.Need-returns-3
 unfolding bytesOf
-returns-3 c = arm (c .before .before .args .r) 2 (c .before .before .args .f) _ (omega arith) (ap (take 4) (c .word-bytes3 .ensures))
+returns-3 c =
+    let start = c .before .before in
+    arm (start .args .r) 2 (start .args .f) _ (omega arith) (ap (take 4) (c .word-bytes3 .ensures))
 
 returns-4 : tie.Need-returns-4
 unfolding bytesOf
-returns-4 c = arm (c .before .before .args .r) 3 (c .before .before .args .f) _ (omega arith) (ap (take 4) (c .word-bytes4 .ensures))
+returns-4 c =
+    let start = c .before .before in
+    arm (start .args .r) 3 (start .args .f) _ (omega arith) (ap (take 4) (c .word-bytes4 .ensures))
 
 returns-5 : tie.Need-returns-5
 unfolding bytesOf
-returns-5 c = arm (c .before .before .args .r) 4 (c .before .before .args .f) _ (omega arith) (ap (take 4) (c .word-bytes5 .ensures))
+returns-5 c =
+    let start = c .before .before in
+    arm (start .args .r) 4 (start .args .f) _ (omega arith) (ap (take 4) (c .word-bytes5 .ensures))
 
 returns-6 : tie.Need-returns-6
 unfolding bytesOf
-returns-6 c = arm (c .before .before .args .r) 5 (c .before .before .args .f) _ (omega arith) (ap (take 4) (c .word-bytes6 .ensures))
+returns-6 c =
+    let start = c .before .before in
+    arm (start .args .r) 5 (start .args .f) _ (omega arith) (ap (take 4) (c .word-bytes6 .ensures))
 
 returns-7 : tie.Need-returns-7
 unfolding bytesOf
-returns-7 c = arm (c .before .before .args .r) 6 (c .before .before .args .f) _ (omega arith) (ap (take 4) (c .word-bytes7 .ensures))
+returns-7 c =
+    let start = c .before .before in
+    arm (start .args .r) 6 (start .args .f) _ (omega arith) (ap (take 4) (c .word-bytes7 .ensures))
 
 returns-8 : tie.Need-returns-8
 unfolding bytesOf
-returns-8 c = arm (c .before .before .args .r) 7 (c .before .before .args .f) _ (omega arith) (ap (take 4) (c .word-bytes8 .ensures))
+returns-8 c =
+    let start = c .before .before in
+    arm (start .args .r) 7 (start .args .f) _ (omega arith) (ap (take 4) (c .word-bytes8 .ensures))
 
 returns-9 : tie.Need-returns-9
 unfolding bytesOf
-returns-9 c = arm (c .before .before .args .r) 8 (c .before .before .args .f) _ (omega arith) (ap (take 4) (c .word-bytes9 .ensures))
+returns-9 c =
+    let start = c .before .before in
+    arm (start .args .r) 8 (start .args .f) _ (omega arith) (ap (take 4) (c .word-bytes9 .ensures))
 
 returns-10 : tie.Need-returns-10
 unfolding bytesOf
@@ -67,7 +85,9 @@ returns-11 c =
 
 returns-12 : tie.Need-returns-12
 unfolding bytesOf
-returns-12 c = arm (c .before .before .args .r) 11 (c .before .before .args .f) _ (omega arith) (ap (take 4) (c .word-bytes10 .ensures))
+returns-12 c =
+    let start = c .before .before in
+    arm (start .args .r) 11 (start .args .f) _ (omega arith) (ap (take 4) (c .word-bytes10 .ensures))
 
 returns-13 : tie.Need-returns-13
 unfolding bytesOf

@@ -47,23 +47,25 @@ returns c =
 
 loop-again : tie.Need-loop-again Inv-loop μ-loop
 loop-again c =
-    let r = c .before .before .before .args .r in
-    let l = c .before .before .loop in
+    let loop = c .before .before in
+    let start = loop .before in
+    let r = start .args .r in
+    let l = loop .loop in
     let h : l .f < 15 = omega arith in (
       omega arith,
       l .inv .1,
       each-more (keeps r) (l .f) (l .inv .2)
-          (⊎-elim
-          (λ w. zero-is r _ (l .f) (l .inv .1) h _ (w .1 .ensures) _ (w .3 .ensures) (w .4 .left))
-          (λ w. held-is r _ (l .f) (l .inv .1) h (omega (arith, w .left)))
-          (c .if1 .came)),
+          (⊎-elim (λ w. zero-is r _ (l .f) (l .inv .1) h _ (w .1 .ensures) _ (w .3 .ensures) (w .4 .left))
+          (λ w. held-is r _ (l .f) (l .inv .1) h (omega (arith, w .left))) (c .if1 .came)),
     )
 
 returns-2 : tie.Need-returns-2 Inv-loop μ-loop
 unfolding tidy
 returns-2 c =
-    let r = c .before .before .args .r in
-    let l = c .before .loop in
+    let loop = c .before in
+    let start = loop .before in
+    let r = start .args .r in
+    let l = loop .loop in
     let e : l .f ≡ 15 = omega arith in
     sym (ap (λ (n : ℕ). eachBelow n (keeps r)) (sym e) ∙ l .inv .2)
 

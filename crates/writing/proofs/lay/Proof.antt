@@ -17,10 +17,10 @@ use Rattle.writing.proofs.lay.Statement.{statement}
 use Rattle.writing.proofs.lay.Tie as tie
 
 abbrev Inv-loop : tie.InvT-loop
-Inv-loop out₀ r t f₀ out f = (f ≤ 15) × (t ≡ span r) × (t ≤ length out₀) × ((length out ≡ length out₀) × (out ≡ laid r f ++ drop t out₀))
+Inv-loop r t out₀ f₀ out f = (f ≤ 15) × (t ≡ span r) × (t ≤ length out₀) × ((length out ≡ length out₀) × (out ≡ laid r f ++ drop t out₀))
 
 abbrev μ-loop : tie.MeasureT-loop
-μ-loop out₀ r t f₀ out f = 15 - f
+μ-loop r t out₀ f₀ out f = 15 - f
 
 loop-holds : tie.Need-loop-holds Inv-loop μ-loop
 loop-holds c =
@@ -29,8 +29,8 @@ loop-holds c =
 
 sub-put-at : tie.Need-sub-put-at Inv-loop μ-loop
 sub-put-at c =
-    let if1 = c .before .before .before in
-    let loop = if1 .before .before in
+    let loop-test = c .before .before .before in
+    let loop = loop-test .before in
     let l = loop .loop in
     let h : l .f < 15 = omega arith in
     omega (arith, start-end (l .f) h)
@@ -74,7 +74,9 @@ loop-again c =
     )
 
 same-length : tie.Need-same-length Inv-loop μ-loop
-same-length c = c .before .loop .inv .3 .0
+same-length c =
+    let loop = c .before in
+    loop .loop .inv .3 .0
 
 returns : tie.Need-returns Inv-loop μ-loop
 returns c =

@@ -12,28 +12,32 @@ use Rattle.writing.proofs.put_at.Statement.{statement}
 use Rattle.writing.proofs.put_at.Tie as tie
 
 abbrev Inv-loop : tie.InvT-loop
-Inv-loop out₀ at x n i₀ out i = (i ≤ n) × (((at + n ≤ length out₀) × (n ≤ length x)) × (out ≡ paste out₀ at x i))
+Inv-loop x n at out₀ i₀ out i = (i ≤ n) × (((at + n ≤ length out₀) × (n ≤ length x)) × (out ≡ paste out₀ at x i))
 
 abbrev μ-loop : tie.MeasureT-loop
-μ-loop out₀ at x n i₀ out i = n - i
+μ-loop x n at out₀ i₀ out i = n - i
 
 loop-holds : tie.Need-loop-holds Inv-loop μ-loop
 loop-holds c = (omega arith, (c .pre, paste-zero _ (c .args .at) (now (c .args .x))))
 
 slice-write-out : tie.Need-slice-write-out Inv-loop μ-loop
 slice-write-out c =
-    let d = now (c .before .before .before .args .out) in
-    let t = c .before .before .before .args .at in
-    let x = now (c .before .before .before .args .x) in
-    let l = c .before .before .loop in
+    let loop = c .before .before in
+    let start = loop .before in
+    let d = now (start .args .out) in
+    let t = start .args .at in
+    let x = now (start .args .x) in
+    let l = loop .loop in
     omega (arith, ap length (l .inv .1 .1), length-paste d t x (l .i) (omega arith) (omega arith))
 
 loop-again : tie.Need-loop-again Inv-loop μ-loop
 loop-again c =
-    let d = now (c .before .before .before .args .out) in
-    let t = c .before .before .before .args .at in
-    let x = now (c .before .before .before .args .x) in
-    let l = c .before .before .loop in (
+    let loop = c .before .before in
+    let start = loop .before in
+    let d = now (start .args .out) in
+    let t = start .args .at in
+    let x = now (start .args .x) in
+    let l = loop .loop in (
       omega arith,
       (
         l .inv .1 .0,
@@ -44,19 +48,23 @@ loop-again c =
 
 same-length : tie.Need-same-length Inv-loop μ-loop
 same-length c =
-    let d = now (c .before .before .args .out) in
-    let t = c .before .before .args .at in
-    let x = now (c .before .before .args .x) in
-    let l = c .before .loop in
+    let loop = c .before in
+    let start = loop .before in
+    let d = now (start .args .out) in
+    let t = start .args .at in
+    let x = now (start .args .x) in
+    let l = loop .loop in
     ap length (l .inv .1 .1) ∙ length-paste d t x (l .i) (omega arith) (omega arith)
 
 returns : tie.Need-returns Inv-loop μ-loop
 returns c =
-    let d = now (c .before .before .args .out) in
-    let t = c .before .before .args .at in
-    let x = now (c .before .before .args .x) in
-    let l = c .before .loop in
-    let e : l .i ≡ c .before .before .args .n = omega arith in
+    let loop = c .before in
+    let start = loop .before in
+    let d = now (start .args .out) in
+    let t = start .args .at in
+    let x = now (start .args .x) in
+    let l = loop .loop in
+    let e : l .i ≡ start .args .n = omega arith in
     l .inv .1 .1 ∙ ap (paste d t x) e
 
 pub put-at-spec : {M : Type 1} → statement M

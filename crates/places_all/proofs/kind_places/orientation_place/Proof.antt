@@ -11,8 +11,13 @@ orientation-place-spec =
     (tie.spec
     (λ c κs. tt) (λ c κs. tt) (λ c κs. tt) (λ c. search needs)
     (λ c.
-    let say = c .before .before in
-    let if1 = say .before .before in
-    let said = if1 .before in
-    rw (← said .before .from .ensures) (dashed-said (sym (said .orientation-said .ensures) ∙ if1 .if1 .taken) (say .say-kind .ensures)))
-    (λ c. rw (← c .before .before .from .ensures) (place-silent _ (sym (c .before .orientation-said .ensures) ∙ c .if1 .left))))
+    let say-kind = c .before .before in
+    let if1 = say-kind .before .before in
+    let orientation-said = if1 .before in
+    let from = orientation-said .before in
+    rw (← from .from .ensures)
+    (dashed-said (sym (orientation-said .orientation-said .ensures) ∙ if1 .if1 .taken) (say-kind .say-kind .ensures)))
+    (λ c.
+    let orientation-said = c .before in
+    let from = orientation-said .before in
+    rw (← from .from .ensures) (place-silent _ (sym (orientation-said .orientation-said .ensures) ∙ c .if1 .left))))

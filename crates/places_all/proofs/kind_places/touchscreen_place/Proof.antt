@@ -11,8 +11,13 @@ touchscreen-place-spec =
     (tie.spec
     (λ c κs. tt) (λ c κs. tt) (λ c κs. tt) (λ c. search needs)
     (λ c.
-    let say = c .before .before in
-    let if1 = say .before .before in
-    let said = if1 .before in
-    rw (← said .before .from .ensures) (dashed-said (sym (said .touchscreen-said .ensures) ∙ if1 .if1 .taken) (say .say-kind .ensures)))
-    (λ c. rw (← c .before .before .from .ensures) (place-silent _ (sym (c .before .touchscreen-said .ensures) ∙ c .if1 .left))))
+    let say-kind = c .before .before in
+    let if1 = say-kind .before .before in
+    let touchscreen-said = if1 .before in
+    let from = touchscreen-said .before in
+    rw (← from .from .ensures)
+    (dashed-said (sym (touchscreen-said .touchscreen-said .ensures) ∙ if1 .if1 .taken) (say-kind .say-kind .ensures)))
+    (λ c.
+    let touchscreen-said = c .before in
+    let from = touchscreen-said .before in
+    rw (← from .from .ensures) (place-silent _ (sym (touchscreen-said .touchscreen-said .ensures) ∙ c .if1 .left))))

@@ -11,8 +11,13 @@ ui-mode-night-place-spec =
     (tie.spec
     (λ c κs. tt) (λ c κs. tt) (λ c κs. tt) (λ c. search needs)
     (λ c.
-    let say = c .before .before in
-    let if1 = say .before .before in
-    let said = if1 .before in
-    rw (← said .before .from .ensures) (dashed-said (sym (said .ui-mode-night-said .ensures) ∙ if1 .if1 .taken) (say .say-kind .ensures)))
-    (λ c. rw (← c .before .before .from .ensures) (place-silent _ (sym (c .before .ui-mode-night-said .ensures) ∙ c .if1 .left))))
+    let say-kind = c .before .before in
+    let if1 = say-kind .before .before in
+    let ui-mode-night-said = if1 .before in
+    let from = ui-mode-night-said .before in
+    rw (← from .from .ensures)
+    (dashed-said (sym (ui-mode-night-said .ui-mode-night-said .ensures) ∙ if1 .if1 .taken) (say-kind .say-kind .ensures)))
+    (λ c.
+    let ui-mode-night-said = c .before in
+    let from = ui-mode-night-said .before in
+    rw (← from .from .ensures) (place-silent _ (sym (ui-mode-night-said .ui-mode-night-said .ensures) ∙ c .if1 .left))))

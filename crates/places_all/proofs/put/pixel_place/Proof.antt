@@ -13,11 +13,12 @@ pixel-place-spec =
     (λ c. search needs) (λ c κs. tt) (λ c. search needs) (λ c κs. tt) (λ c. search needs)
     (λ c.
     let put-decimal = c .before .before in
-    let put-decimal-arg = put-decimal .before .before in
-    let put-between = put-decimal-arg .before .before .before in
-    let put-between-arg = put-between .before .before .before in
-    let out = put-between-arg .before .before .before in
-    let dash = out .before in
+    let put-decimal-arg = put-decimal .before in
+    let out = put-decimal-arg .before .before .before in
+    let put-between = out .before in
+    let put-between-arg2 = put-between .before .before in
+    let put-between-arg = put-between-arg2 .before .before in
+    let dash = put-between-arg .before .before .before in
     let screen-width-height = dash .before .before in
     let if1 = screen-width-height .before in
     place-said (some-said _ (if1 .if1 .left)) (dash .dash .ensures)

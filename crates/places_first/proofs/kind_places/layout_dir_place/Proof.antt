@@ -11,8 +11,13 @@ layout-dir-place-spec =
     (tie.spec
     (λ c κs. tt) (λ c κs. tt) (λ c κs. tt) (λ c. search needs)
     (λ c.
-    let say = c .before .before in
-    let if1 = say .before .before in
-    let said = if1 .before in
-    rw (← said .before .from .ensures) (dashed-said (sym (said .layout-dir-said .ensures) ∙ if1 .if1 .taken) (say .say-kind .ensures)))
-    (λ c. rw (← c .before .before .from .ensures) (place-silent _ (sym (c .before .layout-dir-said .ensures) ∙ c .if1 .left))))
+    let say-kind = c .before .before in
+    let if1 = say-kind .before .before in
+    let layout-dir-said = if1 .before in
+    let from = layout-dir-said .before in
+    rw (← from .from .ensures)
+    (dashed-said (sym (layout-dir-said .layout-dir-said .ensures) ∙ if1 .if1 .taken) (say-kind .say-kind .ensures)))
+    (λ c.
+    let layout-dir-said = c .before in
+    let from = layout-dir-said .before in
+    rw (← from .from .ensures) (place-silent _ (sym (layout-dir-said .layout-dir-said .ensures) ∙ c .if1 .left))))

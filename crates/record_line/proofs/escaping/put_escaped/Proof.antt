@@ -39,4 +39,4 @@ put-escaped-spec =
     (λ c. omega arith) (λ c κs. search needs) (λ c. omega arith) (λ c. omega arith)
     loop-again
     (λ c. omega arith)
-    (λ c. escaped-all _ (c .before .loop .j) (omega arith) (c .before .loop .inv .2)))
+    (λ c. let loop = c .before in escaped-all _ (loop .loop .j) (omega arith) (loop .loop .inv .2)))

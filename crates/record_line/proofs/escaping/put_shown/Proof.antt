@@ -33,7 +33,7 @@ put-shown-spec =
     (tie.spec
     (λ c. search needs) (λ c κs. search needs) (λ c. search needs) (λ c κs. search needs) (λ c. search needs)
     returns
-    (λ c. put-most (c .before .before .put-text .ensures) (search needs) .1)
-    (λ c. sym (length-take-le _ _ (put-most (c .before .before .before .put-text .ensures) (search needs) .1)))
+    (λ c. let put-text = c .before .before in put-most (put-text .put-text .ensures) (search needs) .1)
+    (λ c. let put-text = c .before .before .before in sym (length-take-le _ _ (put-most (put-text .put-text .ensures) (search needs) .1)))
     (λ c κs. search needs) (λ c. search needs)
     returns-2)

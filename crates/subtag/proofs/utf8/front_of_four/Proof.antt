@@ -6,7 +6,9 @@ use Rattle.subtag.proofs.utf8.front_of_four.Statement.{statement}
 use Rattle.subtag.proofs.utf8.front_of_four.Tie as tie
 
 returns : tie.Need-returns
-returns c = rw (told (c .before .ok-at .ensures) (not-true _ (c .if1 .taken)))
+returns c =
+    let ok-at = c .before in
+    rw (told (ok-at .ok-at .ensures) (not-true _ (c .if1 .taken)))
 
 returns-2 : tie.Need-returns-2
 returns-2 c =

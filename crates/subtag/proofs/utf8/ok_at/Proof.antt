@@ -7,11 +7,15 @@ use Rattle.subtag.proofs.utf8.ok_at.Tie as tie
 
 returns : tie.Need-returns
 unfolding okAt
-returns c = simp (lt-ltb _ _ (c .before .before .if1 .taken), le-leb _ _ (c .if2 .taken))
+returns c =
+    let if1 = c .before .before in
+    simp (lt-ltb _ _ (if1 .if1 .taken), le-leb _ _ (c .if2 .taken))
 
 returns-2 : tie.Need-returns-2
 unfolding okAt
-returns-2 c = simp (lt-ltb _ _ (c .before .before .if1 .taken), lt-leb _ _ (c .if2 .left))
+returns-2 c =
+    let if1 = c .before .before in
+    simp (lt-ltb _ _ (if1 .if1 .taken), lt-leb _ _ (c .if2 .left))
 
 returns-3 : tie.Need-returns-3
 unfolding okAt

@@ -10,5 +10,5 @@ digit-spec =
     tie.close
     (tie.spec
     (λ c. search needs) (λ c. search needs)
-    (λ c. rw (lt-ltb (c .before .args .n) 10 (omega arith)))
-    (λ c. rw (le-ltb (c .before .args .n) 10 (omega arith))))
+    (λ c. let start = c .before in rw (lt-ltb (start .args .n) 10 (omega arith)))
+    (λ c. let start = c .before in rw (le-ltb (start .args .n) 10 (omega arith))))

@@ -9,10 +9,9 @@ returns : tie.Need-returns
 unfolding hexOf
 returns c =
     let put-byte2 = c .before .before in
-    let digit2 = put-byte2 .before in
-    let line = digit2 .before .before .before in
-    let put-byte = line .before in
-    let digit = put-byte .before in
+    let digit2 = put-byte2 .before .before in
+    let put-byte = digit2 .before .before .before in
+    let digit = put-byte .before .before in
     rw (← digit .digit .ensures, ← digit2 .digit2 .ensures) (put-put (put-byte .put-byte .ensures) (put-byte2 .put-byte2 .ensures))
 
 pub digits-spec : {M : Type 1} → statement M

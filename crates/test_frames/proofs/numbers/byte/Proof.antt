@@ -8,7 +8,8 @@ use Rattle.test_frames.proofs.numbers.byte.Tie as tie
 
 returns-2 : tie.Need-returns-2
 returns-2 c =
-    let a = c .before .before .args in
+    let start = c .before .before in
+    let a = start .args in
     (sym (List·getD-eq-default (a .bytes .now) 0 {n = a .at} (omega arith)), omega arith)
 
 pub byte-spec : {M : Type 1} → statement M

@@ -1,6 +1,6 @@
--- `sought` meets its contract: a walk of its MIR, by hand. The reader that `new` returns is held in a local and passed to `moved` with the place, and
+-- `sought` meets its contract: a walk of its MIR, by hand. The reader that `new` returns is held in a local and passed to `moved` with the offset, and
 -- what that returns to `next`. All that the proof knows of the three is that each keeps its promise. What a number owns is had for nothing, so the
--- place's is let go at first and made anew for `moved`. Assumes nothing.
+-- offset's is let go at first and made anew for `moved`. Assumes nothing.
 use mathlib.Core.Path.{_≡_, refl, subst}
 use Prim.Native.Nat.{ℕ}
 use mathlib.Core.List.{[], _∷_}
@@ -49,7 +49,7 @@ use Rattle.test_replay_records.proofs.placed.sought.Key.{name}
 use Rattle.test_replay_records.proofs.placed.sought.Statement as stated
 use Rattle.test_replay_records.proofs.placed.sought.Code as code
 
--- the reader d at place p
+-- the reader d at offset p
 abbrev to : RunReader → ℕ → RunReader
 to d p = readerAt (d .bytes) p (d .age)
 

@@ -1,4 +1,4 @@
--- The bytes of what is laid, place by place. Assumes nothing.
+-- The bytes of what is laid, offset by offset. Assumes nothing.
 use mathlib.Core.Path.{_≡_, refl, sym, ap, _∙_}
 use mathlib.Core.Bool.{Bool, true, false, cond, _&&_, true≢false}
 use mathlib.Core.List.{List, _++_}

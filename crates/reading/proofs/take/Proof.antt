@@ -1,10 +1,10 @@
--- `amount` takes T bytes where they are there. Assumes nothing.
+-- `take` takes T bytes where they are there. Assumes nothing.
 use native.Mathlib.Omega.{arith}
 use mathlib.Core.Path.{sym}
 use Rattle.reading.proofs.Whole.{whole-short, whole-cut, took-is}
 use borrow.Author.Needs.{needs}
-use Rattle.reading.proofs.amount.Statement.{statement}
-use Rattle.reading.proofs.amount.Tie as tie
+use Rattle.reading.proofs.take.Statement.{statement}
+use Rattle.reading.proofs.take.Tie as tie
 
 returns : tie.Need-returns
 returns c = sym (whole-short _ _ _ (c .if1 .taken))
@@ -24,5 +24,5 @@ returns-4 c =
     let word = c .before .before in
     took-is _ _ (omega (arith, word .word .ensures)) (omega (arith, word .word .ensures))
 
-pub amount-spec : {M : Type 1} → statement M
-amount-spec = tie.close (tie.spec returns (λ c κs. search needs) (λ c. search needs) returns-2 returns-3 returns-4)
+pub take-spec : {M : Type 1} → statement M
+take-spec = tie.close (tie.spec returns (λ c κs. search needs) (λ c. search needs) returns-2 returns-3 returns-4)
