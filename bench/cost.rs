@@ -22,7 +22,7 @@ unsafe extern "C" {
     fn probe_order(a: *const u8, a_len: usize, b: *const u8, b_len: usize) -> u32;
 }
 
-/// A record of 64 bytes: what stands at which place, and zero elsewhere.
+/// A record of 64 bytes: what stands at which offset, and zero elsewhere.
 type Parts = &'static [(usize, &'static [u8])];
 
 const BLANK: Parts = &[(0, &[64])];
@@ -42,7 +42,7 @@ enum Call {
     Parse,
     /// Parsing and text: the Rust's `String`, made and let go, beside the port's lent buffer.
     Text,
-    /// Two parses and the order of their records; the second has 1 in the byte at this place.
+    /// Two parses and the order of their records; the second has 1 in the byte at this offset.
     Order(usize),
 }
 

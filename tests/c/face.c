@@ -46,7 +46,7 @@ static void fill(void) {
     for (size_t i = 0; i < ROOM; i++) out[i] = GUARD;
 }
 
-/* Whether out holds guard bytes from a place on. */
+/* Whether out holds guard bytes from an offset on. */
 static int untouched(size_t from) {
     for (size_t i = from; i < ROOM; i++)
         if (out[i] != GUARD) return 0;
@@ -70,7 +70,7 @@ static int wrote(uint64_t answer, const char *word) {
     return holds;
 }
 
-/* A record of 64 bytes of room: this size, and one byte at a place. */
+/* A record of 64 bytes of room: this size, and one byte at an offset. */
 static void record(uint8_t *bytes, uint8_t size, size_t at, uint8_t byte) {
     for (size_t i = 0; i < 80; i++) bytes[i] = 0;
     bytes[0] = size;

@@ -2,7 +2,7 @@
  * The driver of the comparison at scale: reads questions, makes the port's calls, and writes what came of each. What tests/rust
  * writes and reads on the other sides is framed, numbers little-endian, and this machine's are too:
  *
- *   question  tag 1, number 4, index 8, place 8, bytes lent 4, length of the first input 4, of the second 4, the two inputs
+ *   question  tag 1, number 4, index 8, offset 8, bytes lent 4, length of the first input 4, of the second 4, the two inputs
  *   answer    status 1, answer 8, length 4, the lent bytes up to the last that isn't what it was before the call
  *
  * Each input and the lent bytes stand between guards. The status has a bit for each that isn't as it was: 1 the guard in front of
@@ -19,10 +19,10 @@ long write(int file, const void *from, size_t count);
 
 /* What crates/test_probe exports for this run. */
 uint64_t probe_first_line(const uint8_t *bytes, size_t len, uint32_t age, uint8_t *out, size_t cap);
-uint64_t probe_line(const uint8_t *bytes, size_t len, uint32_t age, size_t index, size_t place, uint8_t *out, size_t cap);
-uint64_t probe_next(const uint8_t *bytes, size_t len, uint32_t age, size_t index, size_t place, uint8_t *out, size_t cap);
-uint64_t probe_walk(const uint8_t *bytes, size_t len, size_t place);
-size_t probe_records(const uint8_t *bytes, size_t len, size_t place);
+uint64_t probe_line(const uint8_t *bytes, size_t len, uint32_t age, size_t index, size_t offset, uint8_t *out, size_t cap);
+uint64_t probe_next(const uint8_t *bytes, size_t len, uint32_t age, size_t index, size_t offset, uint8_t *out, size_t cap);
+uint64_t probe_walk(const uint8_t *bytes, size_t len, size_t offset);
+size_t probe_records(const uint8_t *bytes, size_t len, size_t offset);
 uint64_t probe_write(const uint8_t *bytes, size_t len, uint32_t size, uint8_t *out, size_t cap);
 
 enum { TAKE, TEXT, AGED_TEXT, MARKS, ORDER, FIRST_LINE, LINE, NEXT, WALK, RECORDS, WRITE, END = 255 };
@@ -37,7 +37,7 @@ enum { TAKE, TEXT, AGED_TEXT, MARKS, ORDER, FIRST_LINE, LINE, NEXT, WALK, RECORD
 struct question {
     uint8_t tag;
     uint32_t number, lent, first_length, second_length;
-    uint64_t index, place;
+    uint64_t index, offset;
     const uint8_t *first, *second;
 };
 
@@ -95,7 +95,7 @@ static int asked(struct question *q) {
     q->tag = at[0];
     memcpy(&q->number, at + 1, 4);
     memcpy(&q->index, at + 5, 8);
-    memcpy(&q->place, at + 13, 8);
+    memcpy(&q->offset, at + 13, 8);
     memcpy(&q->lent, at + 21, 4);
     memcpy(&q->first_length, at + 25, 4);
     memcpy(&q->second_length, at + 29, 4);
@@ -131,10 +131,10 @@ static uint64_t call(const struct question *q, const uint8_t *a, const uint8_t *
     case MARKS: return res_table_config_marks(a, length, q->number, to, lent);
     case ORDER: return res_table_config_order(a, length, b, q->second_length);
     case FIRST_LINE: return probe_first_line(a, length, q->number, to, lent);
-    case LINE: return probe_line(a, length, q->number, q->index, q->place, to, lent);
-    case NEXT: return probe_next(a, length, q->number, q->index, q->place, to, lent);
-    case WALK: return probe_walk(a, length, q->place);
-    case RECORDS: return probe_records(a, length, q->place);
+    case LINE: return probe_line(a, length, q->number, q->index, q->offset, to, lent);
+    case NEXT: return probe_next(a, length, q->number, q->index, q->offset, to, lent);
+    case WALK: return probe_walk(a, length, q->offset);
+    case RECORDS: return probe_records(a, length, q->offset);
     default: return probe_write(a, length, q->number, to, lent);
     }
 }

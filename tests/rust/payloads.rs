@@ -142,15 +142,15 @@ pub fn broken(random: &mut Random) -> Vec<u8> {
 
 /// Every size to 80 at every length to 96.
 pub fn every_size(random: &mut Random) -> Vec<Vec<u8>> {
-    let places = (0..=80).flat_map(|size| (0..=96).map(move |length| (size, length)));
-    places.map(|(size, length)| declared(random, size, length)).collect()
+    let pairs = (0..=80).flat_map(|size| (0..=96).map(move |length| (size, length)));
+    pairs.map(|(size, length)| declared(random, size, length)).collect()
 }
 
 /// Sizes at each field's end and one to either side, with one byte too few, none, one and seven too many.
 pub fn around_ends(random: &mut Random) -> Vec<Vec<u8>> {
     let sizes = ENDS.iter().flat_map(|end| end - 1..=end + 1);
-    let places = sizes.flat_map(|size| [size - 1, size, size + 1, size + 7].map(|length| (size, length)));
-    places.flat_map(|place| [place; 16]).map(|(size, length)| declared(random, size, length)).collect()
+    let pairs = sizes.flat_map(|size| [size - 1, size, size + 1, size + 7].map(|length| (size, length)));
+    pairs.flat_map(|pair| [pair; 16]).map(|(size, length)| declared(random, size, length)).collect()
 }
 
 /// Sizes past 64 and to 65,536, their tails zero or random, with one byte too few, none, one and seven too many.
@@ -185,8 +185,8 @@ pub fn not_there(random: &mut Random) -> Vec<Vec<u8>> {
         0xffff_ffc0,
         0xffff_ffff,
     ];
-    let places = sizes.into_iter().flat_map(|size| [4, 15, 16, 17, 52, 63, 64, 65, 96].map(|length| (size, length)));
-    let mut made: Vec<_> = places.map(|(size, length)| declared(random, size, length)).collect();
+    let pairs = sizes.into_iter().flat_map(|size| [4, 15, 16, 17, 52, 63, 64, 65, 96].map(|length| (size, length)));
+    let mut made: Vec<_> = pairs.map(|(size, length)| declared(random, size, length)).collect();
     made.extend([0x1_0001, 0x8000_0010, 0xffff_ffff].map(|size| declared(random, size, 65536)));
     made
 }
@@ -203,9 +203,9 @@ pub fn damaged(random: &mut Random) -> Vec<Vec<u8>> {
 
 /// Every value of every byte of the words, once.
 fn every_byte(random: &mut Random) -> Vec<Vec<u8>> {
-    let places =
+    let values =
         WORDS.into_iter().flat_map(|word| word..word + 4).flat_map(|at| (0..=255).map(move |value| (at, value)));
-    places
+    values
         .map(|(at, value)| {
             let mut bytes = record(random, 64);
             bytes[at] = value;
@@ -242,8 +242,8 @@ fn one_field(random: &mut Random) -> Vec<Vec<u8>> {
 
 /// Pairs that differ in one byte, which may be in an array.
 fn one_byte(random: &mut Random) -> Vec<Vec<u8>> {
-    let places = (4..64).flat_map(|at| [at; 200]);
-    places
+    let offsets = (4..64).flat_map(|at| [at; 200]);
+    offsets
         .map(|at| {
             let bytes = record(random, 64);
             pair(&bytes, &but_for(random, &bytes, at..at + 1))
@@ -262,8 +262,8 @@ fn two_fields(random: &mut Random) -> Vec<Vec<u8>> {
 
 /// Pairs that differ in two neighbouring fields: by the one in front the first record is less, by the other it is more.
 fn neighbours(random: &mut Random) -> Vec<Vec<u8>> {
-    let places = ENDS.windows(3).map(|ends| (ends[0]..ends[1], ends[1]..ends[2]));
-    places
+    let fields = ENDS.windows(3).map(|ends| (ends[0]..ends[1], ends[1]..ends[2]));
+    fields
         .map(|(front, behind)| {
             let mut bytes = record(random, 64);
             bytes[front.start..behind.end].fill(0);
@@ -274,8 +274,8 @@ fn neighbours(random: &mut Random) -> Vec<Vec<u8>> {
 
 /// Pairs that differ in one word, which is less by number and more byte by byte.
 fn orders_at_odds(random: &mut Random) -> Vec<Vec<u8>> {
-    let places = WORDS.into_iter().flat_map(|at| [at; 200]);
-    places
+    let offsets = WORDS.into_iter().flat_map(|at| [at; 200]);
+    offsets
         .map(|at| {
             let mut less = record(random, 64);
             let mut more = but_for(random, &less, at..at + 4);

@@ -6,7 +6,7 @@ use crate::runs::{HELD_BACK, MARKS_AT, READ_AT, SOUGHT, STEP_AT, TEXT_AT};
 use crate::subject::*;
 use std::cmp::Ordering;
 
-/// The kinds of question of this file, and those on a place of a run. Bytes that hold no whole record are answered by `REFUSED`
+/// The kinds of question of this file, and those on an offset of a run. Bytes that hold no whole record are answered by `REFUSED`
 /// alone, but for the latter.
 pub const ASKED: &[Asked] = &[
     Asked {

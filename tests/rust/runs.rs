@@ -1,4 +1,4 @@
-//! The questions on a place of a run: the step there, the run reader, text, marks, and whether a record is held back. 000 has
+//! The questions on an offset of a run: the step there, the run reader, text, marks, and whether a record is held back. 000 has
 //! neither runs nor ages: the answers are 01's rules over what it parses and says.
 use crate::listed::held_back;
 use crate::payloads::{all_of, declare, declared, few_of, many, one, record, Maker, ENDS, RECORDS};
@@ -9,17 +9,17 @@ use crate::scale::inputs::{any_age, cursor, long_run, room, run};
 use crate::scale::Call;
 use crate::spellings::{PLACES, SPELLED};
 
-/// A row of this file: an answer to what is asked at a place.
+/// A row of this file: an answer to what is asked at an offset.
 macro_rules! at_a_place {
     ($tag:literal, $name:literal, $answer:expr) => {
         Asked {
             tag: $tag,
             name: $name,
-            full: |random| all_of(PLACED, random),
-            fixed: || few_of(PLACED, 40),
+            full: |random| all_of(AT_OFFSETS, random),
+            fixed: || few_of(AT_OFFSETS, 40),
             answer: |payload| {
-                let answer: fn(Placed) -> Vec<u8> = $answer;
-                answer(Placed::read(payload))
+                let answer: fn(AtOffset) -> Vec<u8> = $answer;
+                answer(AtOffset::read(payload))
             },
         }
     };
@@ -34,48 +34,48 @@ pub const TEXT_AT: Asked = at_a_place!(41, "text_at", |at| wrote(at, Call::AgedT
 pub const MARKS_AT: Asked = at_a_place!(42, "marks_at", |at| wrote(at, Call::Marks));
 
 /// What the questions are asked about.
-const PLACED: &[Maker] = &[everywhere, one_late, in_runs, of_records, in_long_runs];
+const AT_OFFSETS: &[Maker] = &[everywhere, one_late, in_runs, of_records, in_long_runs];
 
-/// What a payload holds: an age, a place, the bytes that are lent, and the run.
-struct Placed<'a> {
+/// What a payload holds: an age, an offset, the bytes that are lent, and the run.
+struct AtOffset<'a> {
     age: u32,
-    place: u64,
+    offset: u64,
     lent: &'a [u8],
     run: &'a [u8],
 }
 
-impl Placed<'_> {
+impl AtOffset<'_> {
     /// What a payload holds.
-    fn read(payload: &[u8]) -> Placed<'_> {
+    fn read(payload: &[u8]) -> AtOffset<'_> {
         let number = |at: usize| u32::from_le_bytes(payload[at..at + 4].try_into().expect("four bytes"));
         let (lent, run) = payload[16..].split_at(number(12) as usize);
-        Placed { age: number(0), place: u64::from(number(8)) << 32 | u64::from(number(4)), lent, run }
+        AtOffset { age: number(0), offset: u64::from(number(8)) << 32 | u64::from(number(4)), lent, run }
     }
 
     /// The payload that holds it.
     fn payload(&self) -> Vec<u8> {
         let lent = u32::try_from(self.lent.len()).expect("a length fits four bytes");
-        let numbers = [&self.age.to_le_bytes()[..], &self.place.to_le_bytes(), &lent.to_le_bytes()];
+        let numbers = [&self.age.to_le_bytes()[..], &self.offset.to_le_bytes(), &lent.to_le_bytes()];
         [&numbers.concat(), self.lent, self.run].concat()
     }
 
-    /// The bytes from the place on, none where it is past them.
+    /// The bytes from the offset on, none where it is past them.
     fn rest(&self) -> &[u8] {
-        self.run.get(self.place as usize..).unwrap_or(&[])
+        self.run.get(self.offset as usize..).unwrap_or(&[])
     }
 }
 
-/// A payload at a place, with as many bytes lent as its text or its marks may ask for.
-fn placed(random: &mut Random, age: u32, place: u64, run: &[u8]) -> Vec<u8> {
+/// A payload at an offset, with as many bytes lent as its text or its marks may ask for.
+fn at_offset(random: &mut Random, age: u32, offset: u64, run: &[u8]) -> Vec<u8> {
     let call = one(random, &[Call::AgedText, Call::Marks]);
-    let mut asked = Placed { age, place, lent: &[], run };
+    let mut asked = AtOffset { age, offset, lent: &[], run };
     let (_, count) = room(random, &wanted(call, age, 0, 0, asked.rest()));
     let lent = random.bytes(count);
     asked.lent = &lent;
     asked.payload()
 }
 
-/// Short runs at every place to past their end, at every age and at numbers that are none.
+/// Short runs at every offset to past their end, at every age and at numbers that are none.
 fn everywhere(random: &mut Random) -> Vec<Vec<u8>> {
     let mut tail = record(random, 72);
     tail[64..].fill(0);
@@ -88,8 +88,8 @@ fn everywhere(random: &mut Random) -> Vec<Vec<u8>> {
     let ages: Vec<u32> = ENDS[3..].iter().map(|end| *end as u32).chain([0, 44, 65, u32::MAX]).collect();
     let mut made = Vec::new();
     for run in &runs {
-        for place in 0..run.len() as u64 + 18 {
-            made.extend(ages.iter().map(|age| placed(random, *age, place, run)));
+        for offset in 0..run.len() as u64 + 18 {
+            made.extend(ages.iter().map(|age| at_offset(random, *age, offset, run)));
         }
     }
     made
@@ -97,24 +97,24 @@ fn everywhere(random: &mut Random) -> Vec<Vec<u8>> {
 
 /// A record with one byte that isn't zero, right before each age, at it, right behind it, and the record's last.
 fn one_late(random: &mut Random) -> Vec<Vec<u8>> {
-    let places = ENDS[3..].iter().flat_map(|age| [age - 1, *age, age + 1, 71].map(|at| (*age, at)));
-    places
+    let offsets = ENDS[3..].iter().flat_map(|age| [age - 1, *age, age + 1, 71].map(|at| (*age, at)));
+    offsets
         .map(|(age, at)| {
             let mut bytes = vec![0; 72];
             declare(&mut bytes, 72);
             bytes[at] = 1 + random.below(255) as u8;
-            placed(random, age as u32, 16, &[vec![0; 16], bytes].concat())
+            at_offset(random, age as u32, 16, &[vec![0; 16], bytes].concat())
         })
         .collect()
 }
 
-/// A payload at some place and some age.
+/// A payload at some offset and some age.
 fn anywhere(random: &mut Random, run: &[u8]) -> Vec<u8> {
-    let (age, (_, place)) = (any_age(random), cursor(random, run));
-    placed(random, age, place, run)
+    let (age, (_, offset)) = (any_age(random), cursor(random, run));
+    at_offset(random, age, offset, run)
 }
 
-/// Places of runs of up to 24 records.
+/// Offsets of runs of up to 24 records.
 fn in_runs(random: &mut Random) -> Vec<Vec<u8>> {
     many(12_000, random, |random| {
         let bytes = run(random);
@@ -133,7 +133,7 @@ fn of_records(random: &mut Random) -> Vec<Vec<u8>> {
         .collect()
 }
 
-/// Places of runs of up to 65,536 bytes.
+/// Offsets of runs of up to 65,536 bytes.
 fn in_long_runs(random: &mut Random) -> Vec<Vec<u8>> {
     many(60, random, |random| {
         let bytes = long_run(random);
@@ -146,10 +146,10 @@ fn told(number: u32, amount: usize) -> Vec<u8> {
     [&number.to_le_bytes()[..], &(amount as u64).to_le_bytes()].concat()
 }
 
-/// The step at a place for a reader of an age: whether a record is found, where the next step goes on, and what the reader gives
+/// The step at an offset for a reader of an age: whether a record is found, where the next step goes on, and what the reader gives
 /// of the record. An age is the end of a field, so that what the reader doesn't know are the bytes from there on.
-fn stepped(at: &Placed, number: u32) -> Vec<u8> {
-    let found = age(number).and_then(|age| match at.place.cmp(&(at.run.len() as u64)) {
+fn stepped(at: &AtOffset, number: u32) -> Vec<u8> {
+    let found = age(number).and_then(|age| match at.offset.cmp(&(at.run.len() as u64)) {
         std::cmp::Ordering::Equal => Ok(None),
         _ => whole(at.rest()).map(|(record, amount)| Some((fields(&record)[..age].to_vec(), amount))),
     });
@@ -159,11 +159,11 @@ fn stepped(at: &Placed, number: u32) -> Vec<u8> {
         Err(number) => (told(number, 0), 0, vec![]),
     };
     known.resize(64, 0);
-    [told, (at.place + amount as u64).to_le_bytes().to_vec(), known].concat()
+    [told, (at.offset + amount as u64).to_le_bytes().to_vec(), known].concat()
 }
 
-/// Whether the record at a place is held back.
-fn held(at: Placed) -> Vec<u8> {
+/// Whether the record at an offset is held back.
+fn held(at: AtOffset) -> Vec<u8> {
     let late = age(at.age).and_then(|age| Ok(held_back(&at.rest()[..whole(at.rest())?.1], age)));
     match late {
         Ok(late) => told(0, late.into()),
@@ -172,7 +172,7 @@ fn held(at: Placed) -> Vec<u8> {
 }
 
 /// What a call that writes tells, and the lent bytes as it leaves them.
-fn wrote(at: Placed, call: Call) -> Vec<u8> {
+fn wrote(at: AtOffset, call: Call) -> Vec<u8> {
     let wanted: Wanted = wanted(call, at.age, 0, 0, at.rest());
     let mut left = at.lent.to_vec();
     let told = match wanted {

@@ -12,7 +12,7 @@ use std::io::{BufReader, BufWriter, ErrorKind, Read, Write};
 use std::time::{Duration, Instant};
 use tally::Tally;
 
-/// The calls, in the order of the columns; the driver knows each by its place.
+/// The calls, in the order of the columns; the driver knows each by its number there.
 #[derive(Clone, Copy, PartialEq)]
 pub enum Call {
     Take,
@@ -48,9 +48,9 @@ pub struct Question {
     pub call: Call,
     /// The age, or the writer's size.
     pub number: u32,
-    /// Where a listing is: the record's index and its place. A run begins at the place.
+    /// Where a listing is: the record's index and its offset. A run begins at the offset.
     pub index: u64,
-    pub place: u64,
+    pub offset: u64,
     pub first: Vec<u8>,
     /// The second record of an order.
     pub second: Vec<u8>,
@@ -78,14 +78,14 @@ impl Question {
     /// The question as it is sent.
     fn frame(&self) -> Vec<u8> {
         let lengths = [self.lent, self.first.len(), self.second.len()];
-        [&header(self.call as u8, self.number, self.index, self.place, lengths), &self.first[..], &self.second].concat()
+        [&header(self.call as u8, self.number, self.index, self.offset, lengths), &self.first[..], &self.second].concat()
     }
 
     /// What is said of the question where its answer is another.
     fn said(&self) -> String {
         let name = CALLS[self.call as usize].1;
         let numbers =
-            format!("number {}, index {}, place {}, {} bytes lent", self.number, self.index, self.place, self.lent);
+            format!("number {}, index {}, offset {}, {} bytes lent", self.number, self.index, self.offset, self.lent);
         let second =
             if self.call == Call::Order { format!("\n  second    {}", hex(&self.second)) } else { String::new() };
         format!("{name}: {numbers}\n  first     {}{second}", hex(&self.first))
@@ -93,11 +93,11 @@ impl Question {
 }
 
 /// The front of a question's frame.
-fn header(tag: u8, number: u32, index: u64, place: u64, lengths: [usize; 3]) -> Vec<u8> {
+fn header(tag: u8, number: u32, index: u64, offset: u64, lengths: [usize; 3]) -> Vec<u8> {
     let mut bytes = vec![tag];
     bytes.extend(number.to_le_bytes());
     bytes.extend(index.to_le_bytes());
-    bytes.extend(place.to_le_bytes());
+    bytes.extend(offset.to_le_bytes());
     for length in lengths {
         bytes.extend(u32::try_from(length).expect("a length fits four bytes").to_le_bytes());
     }
@@ -127,14 +127,14 @@ impl Got {
 
     /// Whether it is what is expected: the answer, each lent byte, and guards and inputs as they were.
     fn is(&self, outcome: &Outcome, lent: usize, at: u64) -> bool {
-        let before = |place: usize| 0xf5 + ((at + 64 + place as u64) % 11) as u8;
-        let asked = |place: usize| outcome.wrote.get(place).copied().unwrap_or(before(place));
-        let got = |place: usize| self.front.get(place).copied().unwrap_or(before(place));
+        let before = |offset: usize| 0xf5 + ((at + 64 + offset as u64) % 11) as u8;
+        let asked = |offset: usize| outcome.wrote.get(offset).copied().unwrap_or(before(offset));
+        let got = |offset: usize| self.front.get(offset).copied().unwrap_or(before(offset));
         let touched = self.front.len().max(outcome.wrote.len());
         self.status == 0
             && self.answer == outcome.answer
             && touched <= lent
-            && (0..touched).all(|place| asked(place) == got(place))
+            && (0..touched).all(|offset| asked(offset) == got(offset))
     }
 
     /// What is said of it where it isn't.

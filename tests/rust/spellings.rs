@@ -101,7 +101,7 @@ fn ground(random: &mut Random) -> Vec<u8> {
     }
 }
 
-/// Lays bytes over a record from a place on, as far as the part reaches.
+/// Lays bytes over a record from an offset on, as far as the part reaches.
 fn lay(bytes: &mut [u8], part: Range<usize>, at: usize, word: &[u8]) {
     for (byte, new) in bytes[part].iter_mut().skip(at).zip(word) {
         *byte = *new;
@@ -121,8 +121,8 @@ fn densities(random: &mut Random) -> Vec<Vec<u8>> {
 
 /// Every value of every byte behind size: alone, in a record that says everything, and among random bytes.
 fn values(random: &mut Random) -> Vec<Vec<u8>> {
-    let places = (4..64).flat_map(|at| (0..=255).map(move |value| (at, value)));
-    places
+    let values = (4..64).flat_map(|at| (0..=255).map(move |value| (at, value)));
+    values
         .flat_map(|(at, value)| {
             [empty(), full(), declared(random, 64, 64)].map(|mut bytes| {
                 bytes[at] = value;
@@ -267,7 +267,7 @@ fn sequences(random: &mut Random) -> Vec<Vec<u8>> {
     made
 }
 
-/// Records with a sequence in each of script, variant and numbering system, in the last two at any place, so that it may be
+/// Records with a sequence in each of script, variant and numbering system, in the last two at any offset, so that it may be
 /// cut by the end.
 fn ill_spelled(random: &mut Random) -> Vec<Vec<u8>> {
     let words = sequences(random);

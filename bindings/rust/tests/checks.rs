@@ -13,7 +13,7 @@ use std::cmp::Ordering;
 const RUN: &[u8; 35] = b"\x10\0\0\0\x36\x01\0\0enUS\x01\0\xf0\0\0\0\0\0\0\0\0\0\0\0\0\0\0\0\0\0\x01\x02\x03";
 const GUARD: u8 = 0xa5;
 
-/// A record of these bytes: its size, and one byte at a place.
+/// A record of these bytes: its size, and one byte at an offset.
 fn record(size: u8, at: usize, byte: u8) -> [u8; 80] {
     let mut bytes = [0; 80];
     (bytes[0], bytes[at]) = (size, byte);

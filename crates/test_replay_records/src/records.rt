@@ -1,5 +1,5 @@
 // What the port answers to each kind of question on records, by its tag. The table of tests/rust has the same tags.
-use crate::placed;
+use crate::offsets;
 use answers::Taken;
 use answers::Written;
 use kinds::Density;
@@ -17,7 +17,7 @@ pub(crate) fn answer(tag: u8, payload: &[u8], out: &mut [u8]) -> usize {
         34 => set_density(payload, out),
         35 => compare(payload, out),
         36 => written_back(payload, out),
-        _ => placed::answer(tag, payload, out),
+        _ => offsets::answer(tag, payload, out),
     }
 }
 

@@ -13,7 +13,7 @@ use Rattle.text.specs.Text.{plainText, agedText}
 abbrev pub PlainTextRefuses : List ℕ → List ℕ → Type 0
 PlainTextRefuses s old = Refuses (fewerThan16 s ∷ fewerThanSize s ∷ shorterThan (length (textOf (plain s))) old ∷ []) old (plainText s old)
 
--- `aged_text` and, from a place on, `text_at`: 3, 1, 2, 4, 5
+-- `aged_text` and, from an offset on, `text_at`: 3, 1, 2, 4, 5
 abbrev pub AgedTextRefuses : ℕ → List ℕ → List ℕ → Type 0
 AgedTextRefuses a s old =
     Refuses (notAnAge a ∷ fewerThan16 s ∷ fewerThanSize s ∷ isHeldBack a s ∷ shorterThan (length (textOf (aged a s))) old ∷ []) old (agedText a s old)

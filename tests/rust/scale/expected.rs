@@ -53,7 +53,7 @@ fn listed(bytes: &[u8]) -> Result<(), u32> {
 }
 
 /// What a question's call is to write, with its refusals in 01's order.
-pub fn wanted(call: Call, number: u32, index: u64, place: u64, bytes: &[u8]) -> Wanted {
+pub fn wanted(call: Call, number: u32, index: u64, offset: u64, bytes: &[u8]) -> Wanted {
     match call {
         Call::Text => Ok(whole(bytes)?.0.as_string().into_bytes()),
         Call::AgedText => {
@@ -69,7 +69,7 @@ pub fn wanted(call: Call, number: u32, index: u64, place: u64, bytes: &[u8]) -> 
             Ok(marks(&bytes[..amount], record.size as usize, age).to_vec())
         }
         Call::FirstLine => listed(bytes).and(age(number)).map(first_line),
-        Call::Line | Call::Next => listed(bytes).and(age(number)).map(|age| line(bytes, age, index, place).0),
+        Call::Line | Call::Next => listed(bytes).and(age(number)).map(|age| line(bytes, age, index, offset).0),
         Call::Write => rewritten(bytes, number),
         Call::Take | Call::Order | Call::Walk | Call::Records => Ok(vec![]),
     }
@@ -82,24 +82,24 @@ fn first_line(age: usize) -> Vec<u8> {
     line
 }
 
-/// The line at a cursor, and the cursor behind it. A record's index is at most its place, so there is no line where it isn't.
-fn line(bytes: &[u8], age: usize, index: u64, place: u64) -> (Vec<u8>, u64) {
+/// The line at a cursor, and the cursor behind it. A record's index is at most its offset, so there is no line where it isn't.
+fn line(bytes: &[u8], age: usize, index: u64, offset: u64) -> (Vec<u8>, u64) {
     let mut line = vec![];
-    if place < index {
+    if offset < index {
         return (line, END);
     }
-    match put_record_line(&mut line, bytes, age, index as usize, place as usize).expect(TAKES) {
-        Some(amount) => (line, cursor(index + 1, place + amount as u64)),
+    match put_record_line(&mut line, bytes, age, index as usize, offset as usize).expect(TAKES) {
+        Some(amount) => (line, cursor(index + 1, offset + amount as u64)),
         None => {
-            put_stop_line(&mut line, bytes, place as usize).expect(TAKES);
+            put_stop_line(&mut line, bytes, offset as usize).expect(TAKES);
             (line, END)
         }
     }
 }
 
 /// A cursor at a record.
-fn cursor(index: u64, place: u64) -> u64 {
-    packed(index as u32, place)
+fn cursor(index: u64, offset: u64) -> u64 {
+    packed(index as u32, offset)
 }
 
 /// What the writer makes of the record at the front of some bytes with another size: 6 where a field that isn't read at that
@@ -120,7 +120,7 @@ fn rewritten(bytes: &[u8], size: u32) -> Wanted {
 
 /// What a question's call comes to.
 pub fn outcome(question: &Question) -> Outcome {
-    let Question { call, index, place, first, .. } = question;
+    let Question { call, index, offset, first, .. } = question;
     match call {
         Call::Take => match whole(first) {
             Ok((_, amount)) => told(0, amount as u64),
@@ -130,11 +130,11 @@ pub fn outcome(question: &Question) -> Outcome {
             Ok(order) => told(0, (order as i64 + 1) as u64),
             Err(number) => told(number, 0),
         },
-        Call::Walk | Call::Records => walked(*call, first, *place as usize),
+        Call::Walk | Call::Records => walked(*call, first, *offset as usize),
         Call::Next => {
             let Outcome { number, wrote, .. } = room_for(question);
-            let behind = || line(first, question.number as usize, *index, *place).1;
-            Outcome { number, answer: if number == 0 { behind() } else { cursor(*index, *place) }, wrote }
+            let behind = || line(first, question.number as usize, *index, *offset).1;
+            Outcome { number, answer: if number == 0 { behind() } else { cursor(*index, *offset) }, wrote }
         }
         _ => room_for(question),
     }
@@ -150,8 +150,8 @@ fn room_for(question: &Question) -> Outcome {
 }
 
 /// Where a run stops and with which number, or how many records it has.
-fn walked(call: Call, bytes: &[u8], place: usize) -> Outcome {
-    let (mut stop, mut records) = (place, 0);
+fn walked(call: Call, bytes: &[u8], offset: usize) -> Outcome {
+    let (mut stop, mut records) = (offset, 0);
     while let Some((_, amount)) = bytes.get(stop..).and_then(taken) {
         stop += amount;
         records += 1;

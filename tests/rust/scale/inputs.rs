@@ -192,16 +192,16 @@ pub fn question(random: &mut Random, sort: usize, call: Call, first: Vec<u8>, se
         Call::Write => size(random, &first),
         _ => any_age(random),
     };
-    let (index, place) = match call {
+    let (index, offset) = match call {
         Call::Line | Call::Next | Call::Walk | Call::Records => cursor(random, &first),
         _ => (0, 0),
     };
-    let wanted = wanted(call, number, index, place, &first);
+    let wanted = wanted(call, number, index, offset, &first);
     let (room, lent) = match call {
         Call::Take | Call::Order | Call::Walk | Call::Records => (Room::NotLent, 0),
         _ => room(random, &wanted),
     };
-    Question { call, number, index, place, first, second, lent, room, sort, wanted }
+    Question { call, number, index, offset, first, second, lent, room, sort, wanted }
 }
 
 /// An age, and one in six times another number.
@@ -226,21 +226,21 @@ fn size(random: &mut Random, bytes: &[u8]) -> u32 {
     }
 }
 
-/// A record's index and place in a run: mostly one that a listing has, else any place, one past the bytes, or one of no listing.
+/// A record's index and offset in a run: mostly one that a listing has, else any offset, one past the bytes, or one of no listing.
 pub fn cursor(random: &mut Random, bytes: &[u8]) -> (u64, u64) {
     match random.below(16) {
         0..=9 => {
-            let (mut index, mut place) = (0, 0);
+            let (mut index, mut offset) = (0, 0);
             let most = if random.below(3) == 0 { 0 } else { random.below(bytes.len() / 16 + 2) };
             while index < most {
-                let Some((_, amount)) = taken(&bytes[place..]) else { break };
-                (index, place) = (index + 1, place + amount);
+                let Some((_, amount)) = taken(&bytes[offset..]) else { break };
+                (index, offset) = (index + 1, offset + amount);
             }
-            (index as u64, place as u64)
+            (index as u64, offset as u64)
         }
         10..=12 => {
-            let place = random.below(bytes.len() + 1);
-            (random.below(place + 1) as u64, place as u64)
+            let offset = random.below(bytes.len() + 1);
+            (random.below(offset + 1) as u64, offset as u64)
         }
         13 => (random.below(bytes.len() + 1) as u64, (bytes.len() + random.below(100)) as u64),
         14 => (1 + random.below(bytes.len() + 1) as u64, 0),

@@ -25,14 +25,14 @@ const MUTATIONS: [(&str, Mutation); 8] = [
 const KEPT: usize = 4096;
 const KEPT_LENGTH: usize = 1024;
 
-/// A place in some bytes, or behind them where there are none.
-fn place(random: &mut Random, bytes: &[u8]) -> usize {
+/// An offset in some bytes, or behind them where there are none.
+fn offset(random: &mut Random, bytes: &[u8]) -> usize {
     random.below(bytes.len().max(1))
 }
 
 /// Turns one bit.
 fn flip(random: &mut Random, bytes: &mut Vec<u8>, _: &[Vec<u8>]) {
-    let (at, bit) = (place(random, bytes), random.below(8));
+    let (at, bit) = (offset(random, bytes), random.below(8));
     if let Some(byte) = bytes.get_mut(at) {
         *byte ^= 1 << bit;
     }
@@ -40,7 +40,7 @@ fn flip(random: &mut Random, bytes: &mut Vec<u8>, _: &[Vec<u8>]) {
 
 /// Sets one byte to a number at an end.
 fn set(random: &mut Random, bytes: &mut Vec<u8>, _: &[Vec<u8>]) {
-    let (at, value) = (place(random, bytes), one(random, &[0, 1, 0x7f, 0x80, 0xff]));
+    let (at, value) = (offset(random, bytes), one(random, &[0, 1, 0x7f, 0x80, 0xff]));
     if let Some(byte) = bytes.get_mut(at) {
         *byte = value;
     }

@@ -44,10 +44,10 @@ use Rattle.reader.proofs.RunReader.moved.Met as moved-thm
 use Rattle.reader.proofs.RunReader.next as next
 use Rattle.reader.proofs.RunReader.next.Symbol as next-def
 use Rattle.reader.proofs.RunReader.next.Met as next-thm
-use Rattle.test_replay_records.proofs.placed.sought as sought
-use Rattle.test_replay_records.proofs.placed.sought.Key.{name}
-use Rattle.test_replay_records.proofs.placed.sought.Statement as stated
-use Rattle.test_replay_records.proofs.placed.sought.Code as code
+use Rattle.test_replay_records.proofs.offsets.sought as sought
+use Rattle.test_replay_records.proofs.offsets.sought.Key.{name}
+use Rattle.test_replay_records.proofs.offsets.sought.Statement as stated
+use Rattle.test_replay_records.proofs.offsets.sought.Code as code
 
 -- the reader d at offset p
 abbrev to : RunReader → ℕ → RunReader
