@@ -10,7 +10,7 @@ use Rattle.buffer.specs.Put.{Put}
 use Rattle.buffer.specs.Written.{outcome, written, wrote, refused}
 use Rattle.buffer.proofs.Putting.{front-is, front-take}
 
--- a word that fits is written, and one that doesn't is refused
+-- what fits is written, and what doesn't is refused
 pub written-fits : (w old : List ℕ) → length w ≤ length old → written w old ≡ wrote w old
 unfolding written
 written-fits w old h = rw le-leb

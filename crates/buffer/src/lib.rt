@@ -23,14 +23,14 @@ pub fn put_byte(b: u8, at: usize, out: &mut [u8]) -> usize
     }
 }
 
-// Puts the bytes of word.
-pub fn put(word: &[u8], at: usize, out: &mut [u8]) -> usize
-    ensures { λ r. ⌜ Put (now (out .entry)) at (now (word .entry)) (now (out .exit)) r ⌝ }
+// Puts bytes as they are.
+pub fn put(bytes: &[u8], at: usize, out: &mut [u8]) -> usize
+    ensures { λ r. ⌜ Put (now (out .entry)) at (now (bytes .entry)) (now (out .exit)) r ⌝ }
 {
     let mut o = at;
     let mut j = 0;
-    while j < word.len() {
-        o = put_byte(word[j], o, out);
+    while j < bytes.len() {
+        o = put_byte(bytes[j], o, out);
         j += 1;
     }
     o
@@ -48,7 +48,7 @@ pub fn put_decimal(n: u64, at: usize, out: &mut [u8]) -> usize
     }
 }
 
-// Puts a word and then n in decimal.
+// Puts fixed words and then n in decimal.
 pub fn put_label(front: &[u8], n: u64, at: usize, out: &mut [u8]) -> usize
     ensures { λ r. ⌜ Put (now (out .entry)) at (now (front .entry) ++ decimal n) (now (out .exit)) r ⌝ }
 {
@@ -56,7 +56,7 @@ pub fn put_label(front: &[u8], n: u64, at: usize, out: &mut [u8]) -> usize
     put_decimal(n, a, out)
 }
 
-// Puts n in decimal between two words.
+// Puts n in decimal between fixed words.
 pub fn put_between(front: &[u8], n: u64, back: &[u8], at: usize, out: &mut [u8]) -> usize
     ensures { λ r. ⌜ Put (now (out .entry)) at (now (front .entry) ++ decimal n ++ now (back .entry)) (now (out .exit)) r ⌝ }
 {
@@ -64,13 +64,13 @@ pub fn put_between(front: &[u8], n: u64, back: &[u8], at: usize, out: &mut [u8])
     put(back, a, out)
 }
 
-// Writes word to the front of out; where out is shorter, it is left as it is.
-pub fn write(word: &[u8], out: &mut [u8]) -> Written
-    ensures { λ r. ⌜ outcome r (now (out .exit)) ≡ written (now (word .entry)) (now (out .entry)) ⌝ }
+// Writes bytes to the front of out; where out is shorter, it is left as it is.
+pub fn write(bytes: &[u8], out: &mut [u8]) -> Written
+    ensures { λ r. ⌜ outcome r (now (out .exit)) ≡ written (now (bytes .entry)) (now (out .entry)) ⌝ }
 {
-    let n = word.len();
+    let n = bytes.len();
     if n <= out.len() {
-        put(word, 0, out);
+        put(bytes, 0, out);
         Written::Wrote(n)
     } else {
         Written::Refused(Refusal::ShortBuffer)

@@ -6,7 +6,7 @@ use lib.Dec.{eqb}
 use borrow.Author.Tests.{eqb-true, ne-eqb}
 use Rattle.laws.proofs.Arms.{RestAfter, Rest, still}
 use Rattle.laws.proofs.Choice.{chosen-by}
-use Rattle.laws.proofs.Lists as lists
+use Rattle.laws.proofs.Lists.{Each}
 use Rattle.kinds.specs.Pick.{pick}
 
 -- the numbers of a table
@@ -25,11 +25,11 @@ pub pick-rest : {A : Type 0} (t : List (ℕ × A)) (other : A) (n : ℕ) → Res
 pick-rest t other n h = pick-after (Unit {0}) t other n h
 
 -- P holds of each row's number and entry
-abbrev pub Each : {A : Type 0} → (ℕ → A → Type 0) → List (ℕ × A) → Type 0
-Each P t = lists.Each (λ e. P (e .0) (e .1)) t
+abbrev pub EachRow : {A : Type 0} → (ℕ → A → Type 0) → List (ℕ × A) → Type 0
+EachRow P t = Each (λ e. P (e .0) (e .1)) t
 
 -- what holds of each row, and of n and what is left, holds of n and what is picked
-pub pick-each : {A : Type 0} (P : ℕ → A → Type 0) (t : List (ℕ × A)) (other : A) (n : ℕ) → Each P t → P n other → P n (pick t other n)
+pub pick-each : {A : Type 0} (P : ℕ → A → Type 0) (t : List (ℕ × A)) (other : A) (n : ℕ) → EachRow P t → P n other → P n (pick t other n)
 pick-each P [] other n h k = k
 pick-each P (e ∷ t) other n h k =
     chosen-by (P n) (eqb n (e .0)) (λ q. rw (eqb-true n (e .0) q) (h .0)) (λ q. pick-each P t other n (h .1) k)

@@ -19,7 +19,7 @@ use Rattle.runs.specs.declared.Stop.{Stop}
 use Rattle.runs.specs.declared.Front.{Front}
 use Rattle.runs.specs.Runs.{frontAt}
 use Rattle.runs.proofs.Records.{front-fits}
-use Rattle.record_line.specs.RecordLine.{lineIn}
+use Rattle.record_line.specs.LineIn.{lineIn}
 use Rattle.record_line.proofs.Answers.{line-is}
 use Rattle.lines.specs.declared.Cursor.{Cursor}
 use Rattle.lines.specs.declared.Lined.{Lined}

@@ -39,7 +39,7 @@ age-cuts-none a f g h l =
     let one = each-at 15 (λ k. leb (endOf k) a || leb a (startOf k)) all f h in
     leb-true a (startOf f) (or-second (leb (endOf f) a) (leb a (startOf f)) one (lt-leb (endOf f) a l))
 
-module _ (a : ℕ) (s : List ℕ) (age : isAge a ≡ true) (whole : taken s ≤ length s) (shown : heldBack a s ≡ false) where
+module _ (a : ℕ) (s : List ℕ) (age : isAge a ≡ true) (whole : taken s ≤ length s) (unheld : heldBack a s ≡ false) where
   -- a field that the reader doesn't know is zero
   blank-field : (f : ℕ) → f < 15 → a < endOf f → endOf f ≤ taken s → part s (startOf f) (widthOf f) ≡ replicate (widthOf f) 0
   blank-field f h l t =
@@ -48,7 +48,7 @@ module _ (a : ℕ) (s : List ℕ) (age : isAge a ≡ true) (whole : taken s ≤ 
       let n : length (part s (startOf f) (widthOf f)) ≡ widthOf f = length-take-le (widthOf f) _ (rw (length-drop (startOf f) s) (omega arith)) in
       ext-getD 0 _ _ (n ∙ sym (length-replicate (widthOf f) 0)) (λ i k.
       let w : i < widthOf f = omega (arith, n) in
-      getD-take (widthOf f) _ i 0 w ∙ getD-drop (startOf f) s i 0 ∙ unheld-zero a s shown (startOf f + i) (omega arith) (omega arith)
+      getD-take (widthOf f) _ i 0 w ∙ getD-drop (startOf f) s i 0 ∙ unheld-zero a s unheld (startOf f + i) (omega arith) (omega arith)
       ∙ sym (getD-replicate (widthOf f) i 0 0 w))
 
   same-field : (f : ℕ) → f < 15 → fieldBy (readsAt a (sizeOf s)) s f ≡ fieldBy (reads (sizeOf s)) s f

@@ -10,6 +10,7 @@ use lib.Dec.{eqb}
 use lib.ListN.{length, getD, take, drop, length-take, drop-of-length-le}
 use lib.Seq.{drop-cons, take-nil, getD-take}
 use borrow.Author.Tests.{eq-eqb, ne-eqb, eqb-true, eqb-false}
+use Rattle.laws.proofs.Tests.{and-both}
 use Rattle.record.specs.Table.{part, allZero}
 
 -- the part from a on of the first t bytes
@@ -52,12 +53,8 @@ pub some-found : (l : List ℕ) → allZero l ≡ false → Found l
 some-found [] e = absurd (true≢false e)
 some-found (x ∷ l) e = found-by x l (eqb x 0) refl (some-found l) e
 
-both-true : (x : ℕ) (b : Bool) (u : Bool) → eqb x 0 ≡ b → b && u ≡ true → (x ≡ 0) × (u ≡ true)
-both-true x true u p e = (eqb-true x 0 p, e)
-both-true x false u p e = absurd (true≢false (sym e))
-
 -- and bytes that are all zero have none
 pub each-zero : (l : List ℕ) → allZero l ≡ true → (i : ℕ) → getD l i 0 ≡ 0
 each-zero [] e i = refl
-each-zero (x ∷ l) e zero = both-true x (eqb x 0) (allZero l) refl e .0
-each-zero (x ∷ l) e (suc i) = each-zero l (both-true x (eqb x 0) (allZero l) refl e .1) i
+each-zero (x ∷ l) e zero = eqb-true x 0 (and-both {a = eqb x 0} e .0)
+each-zero (x ∷ l) e (suc i) = each-zero l (and-both {a = eqb x 0} e .1) i

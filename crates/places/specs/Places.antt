@@ -28,11 +28,11 @@ some n = not (eqb n 0)
 abbrev pub minorWords : ℕ → List ℕ
 minorWords m = cond (eqb m 0) [] (ascii "." ++ decimal m)
 
--- a number behind a word: said when it isn't 0
+-- a number behind fixed words: said when it isn't 0
 abbrev pub labelPlace : List ℕ → ℕ → Place
 labelPlace front n = (some n, front ++ decimal n)
 
--- a number of dp behind a word: said when it isn't 0
+-- a number of dp behind fixed words: said when it isn't 0
 abbrev pub dpPlace : List ℕ → ℕ → Place
 dpPlace front n = (some n, front ++ decimal n ++ ascii "dp")
 

@@ -9,7 +9,7 @@ ghost use Rattle.locale.specs.Locale.{localeSaid, localeWords};
 ghost use Rattle.places.specs.Say.{Says};
 ghost use Rattle.places.specs.Places.{labelPlace, dpPlace};
 
-// A number behind a word.
+// A number behind fixed words.
 pub(crate) fn label_place(front: &[u8], n: u16, at: usize, out: &mut [u8]) -> usize
     ensures { λ r. ⌜ Says (now (out .entry)) at (labelPlace (now (front .entry)) n ∷ []) (now (out .exit)) r ⌝ }
 {
@@ -20,7 +20,7 @@ pub(crate) fn label_place(front: &[u8], n: u16, at: usize, out: &mut [u8]) -> us
     put_label(front, n as u64, a, out)
 }
 
-// A number of dp behind a word.
+// A number of dp behind fixed words.
 pub(crate) fn dp_place(front: &[u8], n: u16, at: usize, out: &mut [u8]) -> usize
     ensures { λ r. ⌜ Says (now (out .entry)) at (dpPlace (now (front .entry)) n ∷ []) (now (out .exit)) r ⌝ }
 {

@@ -1,6 +1,6 @@
 -- The run reader in the logic: its type and its fields', and what a reader owns as against what its fields own together.
 --     Row, Shape, Lawss        the reader's type, its description and its laws, over a signature's one lifetime.        Rows     its fields' types
---     fieldsOf, machineOf, madeOf      a reader's fields, and their machine values; the reader that is made of fields
+--     partsOf, machineOf, madeOf      a reader's fields, and their machine values; the reader that is made of fields
 --     Steps                    what a step of a reader gives
 --     bytes-known, offset-known, age-known, fields-known, reader-known      the machine values of each (`ByHand.antt`'s `Known`)
 --     Own, Held, Apart         what a reader owns; that with the token of its lifetime; what its fields own together, with the token
@@ -46,14 +46,14 @@ Shape κs = T.the-type (namedLft 1 0 tt κs)
 abbrev pub Lawss : (κs : Lfts 1) → LL.Laws (Shape κs)
 Lawss κs = T′.the-laws (namedLft 1 0 tt κs)
 
-abbrev pub Bytes : Lfts 1 → RattleType
-Bytes κs = ShrSlice (named 0) (κs .0) u8
+abbrev pub Lent : Lfts 1 → RattleType
+Lent κs = ShrSlice (named 0) (κs .0) u8
 
 abbrev pub Rows : Lfts 1 → List RattleType
-Rows κs = Bytes κs ∷ usize ∷ G.the-row ∷ []
+Rows κs = Lent κs ∷ usize ∷ G.the-row ∷ []
 
-abbrev pub fieldsOf : RunReader → RefT (List ℕ) × (ℕ × (Age × Unit {0}))
-fieldsOf d = (d .bytes, (d .offset, (d .age, tt)))
+abbrev pub partsOf : RunReader → RefT (List ℕ) × (ℕ × (Age × Unit {0}))
+partsOf d = (d .bytes, (d .offset, (d .age, tt)))
 
 abbrev pub machineOf : RunReader → List Val × (List Val × (List Val × Unit {0}))
 machineOf d = (slice-vals (d .bytes), (uint-vals w64 (d .offset), (G′.lowered (d .age) ∷ [], tt)))
@@ -72,10 +72,10 @@ module _ {M : Type 1} (𝓤 : URA M) (H : Heap 𝓤) (A : Atoms 𝓤) where
   Held κs qs d = sep 𝓤 (toks 𝓤 A 1 κs qs) (Own κs d)
 
   abbrev pub Apart : Lfts 1 → Shares 1 → RunReader → SProp 𝓤
-  Apart κs qs d = sep 𝓤 (toks 𝓤 A 1 κs qs) (sem 𝓤 H A (owns (Rows κs) (fieldsOf d) (machineOf d)))
+  Apart κs qs d = sep 𝓤 (toks 𝓤 A 1 κs qs) (sem 𝓤 H A (owns (Rows κs) (partsOf d) (machineOf d)))
 
 module _ {M : Type 1} (𝓤 : URA M) (H : Heap 𝓤) (A : Atoms 𝓤) (W : Given 𝓤 H A) where
-  abbrev pub bytes-known : (κs : Lfts 1) → Known 𝓤 H A (Bytes κs)
+  abbrev pub bytes-known : (κs : Lfts 1) → Known 𝓤 H A (Lent κs)
   bytes-known κs = record { vals = slice-vals; tells = shr-slice-tells (named 0) (κs .0) u8; lawful = shr-slice-lawful 𝓤 H A W (named 0) (κs .0) u8 }
 
   abbrev pub offset-known : Known 𝓤 H A usize
@@ -97,9 +97,9 @@ module _ {M : Type 1} (𝓤 : URA M) (H : Heap 𝓤) (A : Atoms 𝓤) (W : Given
   module _ (κs : Lfts 1) (qs : Shares 1) (d : RunReader) where
     pub opens : ent 𝓤 (Held 𝓤 H A κs qs d) (Apart 𝓤 H A κs qs d)
     opens =
-        let P : SProp 𝓤 = sem 𝓤 H A (owns (Rows κs) (fieldsOf d) (machineOf d)) in
+        let P : SProp 𝓤 = sem 𝓤 H A (owns (Rows κs) (partsOf d) (machineOf d)) in
         monoR 𝓤 (toks 𝓤 A 1 κs qs)
-        (via 𝓤 _ (own-open 𝓤 H A W (Shape κs) (Lawss κs) (fieldsOf d) (T′.lowered d)) (guardE 𝓤 _ P (λ _. id⊢ 𝓤 P)))
+        (via 𝓤 _ (own-open 𝓤 H A W (Shape κs) (Lawss κs) (partsOf d) (T′.lowered d)) (guardE 𝓤 _ P (λ _. id⊢ 𝓤 P)))
 
     pub shuts : ent 𝓤 (Apart 𝓤 H A κs qs d) (Held 𝓤 H A κs qs d)
-    shuts = monoR 𝓤 (toks 𝓤 A 1 κs qs) (own-shut 𝓤 H A W (Shape κs) (Lawss κs) (fieldsOf d))
+    shuts = monoR 𝓤 (toks 𝓤 A 1 κs qs) (own-shut 𝓤 H A W (Shape κs) (Lawss κs) (partsOf d))

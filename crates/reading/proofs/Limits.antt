@@ -11,7 +11,8 @@ use lib.ListN.{length}
 use borrow.Author.Tests.{le-leb, lt-leb, leb-true, ltb-true}
 use Rattle.laws.proofs.Below.{in-row}
 use Rattle.record.specs.Table.{startOf, endOf, bytesTaken}
-use Rattle.reading.specs.Reading.{reads, recordBy, plain, aged, sizeOf, taken, readTo}
+use Rattle.reading.specs.Reading.{reads, recordBy, plain, aged, sizeOf, taken}
+use Rattle.reading.specs.ReadTo.{readTo}
 use Rattle.reading.proofs.FieldBytes.{record-by}
 
 -- the first four fields end within 16, and the others past it

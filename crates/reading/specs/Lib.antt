@@ -1,3 +1,4 @@
 pub mod Reading
+pub mod ReadTo
 pub mod Demand1
 pub mod Demand3

@@ -1,5 +1,5 @@
 -- 01, "The record" and "Ages, marks, runs": what parsing gives, plain and at an age. Assumes nothing.
-use Prim.Native.Nat.{ℕ, min}
+use Prim.Native.Nat.{ℕ}
 use mathlib.Core.List.{List}
 use mathlib.Core.Bool.{Bool, not, cond, _&&_, _||_}
 use lib.Dec.{leb, ltb}
@@ -61,10 +61,6 @@ plain s = recordBy (reads (sizeOf s)) s
 -- the reading of a reader of age a
 unfoldable pub aged : ℕ → List ℕ → ResTableConfig
 aged a s = recordBy (readsAt a (sizeOf s)) s
-
--- the record of the fields that end within a limit and within the bytes
-abbrev pub readTo : ℕ → List ℕ → ResTableConfig
-readTo limit s = recordBy (λ f. leb (endOf f) (min limit (length s))) s
 
 -- what is given where a whole record stands at the front of s; 1 comes when there are fewer than 16 bytes, 2 when 16 or more,
 -- fewer than size

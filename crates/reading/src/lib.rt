@@ -9,7 +9,8 @@ use record::blank;
 ghost use mathlib.Core.Path.{_≡_};
 ghost use Prim.Native.Nat.{min};
 ghost use Rattle.answers.specs.Tells.{takenTells};
-ghost use Rattle.reading.specs.Reading.{aged, takeOf, ifWhole, parseAged, parseOf, parseRefused, parseTook, parsedOutcome, readTo, taken};
+ghost use Rattle.reading.specs.Reading.{aged, takeOf, ifWhole, parseAged, parseOf, parseRefused, parseTook, parsedOutcome, taken};
+ghost use Rattle.reading.specs.ReadTo.{readTo};
 
 // The answer of parsing, beside the record, which holds nothing where the answer is a refusal.
 pub struct Parsed {

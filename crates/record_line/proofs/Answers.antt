@@ -17,7 +17,8 @@ use Rattle.reading.proofs.Whole.{took-says}
 use Rattle.marking.specs.Marks.{lateBytes, heldBack, marksOf, lettersIn}
 use Rattle.marking.proofs.Answering.{gives}
 use Rattle.places.specs.Places.{textOf}
-use Rattle.record_line.specs.RecordLine.{shownUnless, laidOut, recordLine, lineIn, recordLineOf}
+use Rattle.record_line.specs.RecordLine.{shownUnless, laidOut, recordLine, recordLineOf}
+use Rattle.record_line.specs.LineIn.{lineIn}
 
 module _ (a : ℕ) (s : List ℕ) (known : true ≡ isAge a) where
   -- the size that a reader of an age reads is the declared one

@@ -9,12 +9,14 @@ use Rattle.laws.proofs.Choice.{chosen}
 use Rattle.buffer.specs.Decimal.{decimal}
 use Rattle.buffer.proofs.Digits.{decimal-long}
 use Rattle.record.specs.Table.{Bytes}
-use Rattle.reading.specs.Reading.{recordBy, aged, sizeOf, taken, readTo}
+use Rattle.reading.specs.Reading.{recordBy, aged, sizeOf, taken}
+use Rattle.reading.specs.ReadTo.{readTo}
 use Rattle.marking.specs.Marks.{lateBytes, heldBack, lettersIn, marksOf}
 use Rattle.marking.proofs.Marking.{marks-length}
 use Rattle.places.specs.Places.{textOf}
 use Rattle.text.proofs.Ranges.{field-below, read-long, aged-long}
-use Rattle.record_line.specs.RecordLine.{shownUnless, laidOut, recordLine, lineIn}
+use Rattle.record_line.specs.RecordLine.{shownUnless, laidOut, recordLine}
+use Rattle.record_line.specs.LineIn.{lineIn}
 use Rattle.record_line.proofs.Escapes.{shown-long}
 
 -- what is shown of a text

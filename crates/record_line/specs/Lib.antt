@@ -1,3 +1,4 @@
 pub mod RecordLine
+pub mod LineIn
 pub mod Ended
 pub mod Demand1

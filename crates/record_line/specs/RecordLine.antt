@@ -1,5 +1,5 @@
 -- 01, "The listing": the line of a record, how it shows a text, and a call for it. Assumes nothing.
-use Prim.Native.Nat.{ℕ, _/_, _%_, min}
+use Prim.Native.Nat.{ℕ, _/_, _%_}
 use mathlib.Core.List.{List, [], _∷_, _++_}
 use mathlib.Core.Bool.{Bool, cond, not, _&&_}
 use lib.Dec.{leb, eqb}
@@ -7,8 +7,8 @@ use lib.ListN.{getD}
 use Rattle.buffer.specs.Ascii.{ascii}
 use Rattle.buffer.specs.Decimal.{decimal}
 use Rattle.buffer.specs.Written.{Outcome, written, refused}
-use Rattle.reading.specs.Reading.{aged, sizeOf, readTo, ifWhole, ifAge}
-use Rattle.marking.specs.Marks.{letter, lateBytes, heldBack, lettersIn, marksOf}
+use Rattle.reading.specs.Reading.{aged, sizeOf, ifWhole, ifAge}
+use Rattle.marking.specs.Marks.{letter, heldBack, marksOf}
 use Rattle.places.specs.Places.{textOf}
 
 -- the capital hexadecimal digits
@@ -57,11 +57,6 @@ laidOut i p size marks text =
 -- the line of the record at the front of s, for a reader of age a
 abbrev pub recordLine : ℕ → ℕ → ℕ → List ℕ → List ℕ
 recordLine a i p s = laidOut i p (sizeOf s) (marksOf a s) (shownUnless (heldBack a s) (textOf (aged a s)))
-
--- the same line of a record of t bytes, by what is read of them
-abbrev pub lineIn : ℕ → ℕ → ℕ → ℕ → List ℕ → List ℕ
-lineIn a t i p s =
-    laidOut i p (readTo (min t a) s .size) (lettersIn a t s) (shownUnless (lateBytes s t a) (textOf (readTo (min t a) s)))
 
 -- a call for that line: 3, 1, 2, then 5
 abbrev pub recordLineOf : ℕ → ℕ → ℕ → List ℕ → List ℕ → Outcome

@@ -23,7 +23,8 @@ ghost use Rattle.buffer.specs.Put.{Put};
 ghost use Rattle.buffer.specs.Written.{outcome, written};
 ghost use Rattle.marking.specs.Marks.{lateBytes};
 ghost use Rattle.places.specs.Places.{textOf};
-ghost use Rattle.record_line.specs.RecordLine.{lineIn, recordLineOf, shownUnless, space};
+ghost use Rattle.record_line.specs.RecordLine.{recordLineOf, shownUnless, space};
+ghost use Rattle.record_line.specs.LineIn.{lineIn};
 
 // No line of a record is longer, whatever the index and the offset.
 pub const LONGEST_LINE: usize = 1101;

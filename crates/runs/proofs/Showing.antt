@@ -42,8 +42,8 @@ module _ (t : List ℕ) (whole : taken t ≤ length t) where
     text-by old b e = age-known a _ _ (sym age) ∙ whole-took t _ _ whole ∙ rw e
 
     -- one that isn't held back is written as the plain text
-    shown-is : (old : List ℕ) → heldBack a t ≡ false → agedText a t old ≡ written (textOf (plain t)) old
-    shown-is old e = text-by old false e ∙ ap (λ (w : List ℕ). written w old) (unheld-text a t age whole e)
+    unheld-is : (old : List ℕ) → heldBack a t ≡ false → agedText a t old ≡ written (textOf (plain t)) old
+    unheld-is old e = text-by old false e ∙ ap (λ (w : List ℕ). written w old) (unheld-text a t age whole e)
 
     -- the mark of field f where it is written
     mark-left : (old : List ℕ) → 14 ≤ length old → (f : ℕ) → 1 ≤ f → f ≤ 14 → getD (marksOutcome a t old .leaves) (f - 1) 0 ≡ letterOf (markOf a t f)
@@ -62,10 +62,10 @@ module _ (t : List ℕ) (whole : taken t ≤ length t) where
 
     -- a text that isn't held back and fits is written
     fits-wrote : (old : List ℕ) → heldBack a t ≡ false → length (textOf (plain t)) ≤ length old → agedText a t old ≡ wrote (textOf (plain t)) old
-    fits-wrote old h l = shown-is old h ∙ written-fits (textOf (plain t)) old l
+    fits-wrote old h l = unheld-is old h ∙ written-fits (textOf (plain t)) old l
 
-    zero-shown : ZeroFrom a t → heldBack a t ≡ false
-    zero-shown z = by (heldBack a t) refl where
+    zero-unheld : ZeroFrom a t → heldBack a t ≡ false
+    zero-unheld z = by (heldBack a t) refl where
       by : (b : Bool) → heldBack a t ≡ b → heldBack a t ≡ false
       by true h = absurd (let w = held-exactly a t .0 h in w .found (z (w .offset) (w .late) (w .within)))
       by false h = h
@@ -74,7 +74,7 @@ module _ (t : List ℕ) (whole : taken t ≤ length t) where
     shows-zero old e = let f = shows-fits old e in (unheld-zero a t (f .0), f .1)
 
     pub zero-shows : (old : List ℕ) → ZeroFrom a t → length (textOf (plain t)) ≤ length old → Shows (agedText a t old)
-    zero-shows old z l = rw (fits-wrote old (zero-shown z) l)
+    zero-shows old z l = rw (fits-wrote old (zero-unheld z) l)
 
     -- a text that is shown is the plain text
     pub shows-plain : (old : List ℕ) → Shows (agedText a t old) → (agedText a t old ≡ plainText t old) × (plainText t old ≡ wrote (textOf (plain t)) old)

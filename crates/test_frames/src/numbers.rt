@@ -3,25 +3,25 @@ ghost use mathlib.Core.Path.{_≡_};
 ghost use Prim.Native.Nat.{_<_};
 ghost use lib.ListN.{getD};
 ghost use Rattle.buffer.specs.Put.{Put};
-ghost use Rattle.test_frames.specs.Numbers.{bytesOf, numberOf};
+ghost use Rattle.test_frames.specs.Numbers.{lowBytes, numberAt};
 
 // The number of the two bytes at the front; 0 stands for a byte that isn't there.
 pub fn two(bytes: &[u8]) -> u16
-    ensures { λ r. ⌜ r ≡ numberOf 2 (now (bytes .entry)) 0 ⌝ }
+    ensures { λ r. ⌜ r ≡ numberAt 2 (now (bytes .entry)) 0 ⌝ }
 {
     (byte(bytes, 0) + 256 * byte(bytes, 1)) as u16
 }
 
 // The number of the four bytes at the front; 0 stands for a byte that isn't there.
 pub fn four(bytes: &[u8]) -> usize
-    ensures { λ r. ⌜ r ≡ numberOf 4 (now (bytes .entry)) 0 ⌝ }
+    ensures { λ r. ⌜ r ≡ numberAt 4 (now (bytes .entry)) 0 ⌝ }
 {
     byte(bytes, 0) + 256 * (byte(bytes, 1) + 256 * (byte(bytes, 2) + 256 * byte(bytes, 3)))
 }
 
 // The number of the eight bytes at the front; 0 stands for a byte that isn't there.
 pub fn eight(bytes: &[u8]) -> usize
-    ensures { λ r. ⌜ r ≡ numberOf 8 (now (bytes .entry)) 0 ⌝ }
+    ensures { λ r. ⌜ r ≡ numberAt 8 (now (bytes .entry)) 0 ⌝ }
 {
     let high = byte(bytes, 4)
         + 256 * (byte(bytes, 5) + 256 * (byte(bytes, 6) + 256 * byte(bytes, 7)));
@@ -45,7 +45,7 @@ fn wide(byte: u8) -> usize
 
 // Puts a number's two bytes.
 pub fn put_two(n: u16, at: usize, out: &mut [u8]) -> usize
-    ensures { λ r. ⌜ Put (now (out .entry)) at (bytesOf 2 n) (now (out .exit)) r ⌝ }
+    ensures { λ r. ⌜ Put (now (out .entry)) at (lowBytes 2 n) (now (out .exit)) r ⌝ }
 {
     let at = buffer::put_byte((n % 256) as u8, at, out);
     buffer::put_byte((n / 256 % 256) as u8, at, out)
@@ -53,7 +53,7 @@ pub fn put_two(n: u16, at: usize, out: &mut [u8]) -> usize
 
 // Puts a number's four bytes.
 pub fn put_four(n: u32, at: usize, out: &mut [u8]) -> usize
-    ensures { λ r. ⌜ Put (now (out .entry)) at (bytesOf 4 n) (now (out .exit)) r ⌝ }
+    ensures { λ r. ⌜ Put (now (out .entry)) at (lowBytes 4 n) (now (out .exit)) r ⌝ }
 {
     let at = buffer::put_byte((n % 256) as u8, at, out);
     let at = buffer::put_byte((n / 256 % 256) as u8, at, out);

@@ -53,9 +53,9 @@ module _ (s old : List ℕ) (amount : Taken) (told : takenTells amount ≡ takeO
     pub aged-held : (n : ℕ) (late : Bool) → amount ≡ Taken.Took n → late ≡ lateBytes s n a → late ≡ true → refused Refusal.HeldBack old ≡ agedText a s old
     aged-held n late e l q = sym (behind n late e l ∙ rw q)
 
-    pub aged-shown : (n : ℕ) (late : Bool) (p : Parsed) (o : Outcome) → amount ≡ Taken.Took n → late ≡ lateBytes s n a → late ≡ false
+    pub aged-unheld : (n : ℕ) (late : Bool) (p : Parsed) (o : Outcome) → amount ≡ Taken.Took n → late ≡ lateBytes s n a → late ≡ false
         → parsedOutcome p ≡ parseAged a s → o ≡ written (textOf (p .«record»)) old → o ≡ agedText a s old
-    aged-shown n late p o e l q g h =
+    aged-unheld n late p o e l q g h =
         let t : success n ≡ takeOf s = rw e at told in
         let gives : p .«record» ≡ aged a s = ap (λ (x : ParseOutcome). x .gives) (g ∙ age-known a _ _ known ∙ took-whole s _ _ n t) in
         h ∙ rw gives (sym (behind n late e l ∙ rw q))

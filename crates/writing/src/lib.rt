@@ -123,11 +123,13 @@ fn is_tidy(r: ResTableConfig, t: usize) -> bool
     requires { ⌜ t ≡ span r ⌝ }
     ensures { λ b. ⌜ b ≡ tidy r ⌝ }
 {
+    let starts = STARTS;
+    let ends = ENDS;
     let mut f: usize = 0;
     while f < 15 {
-        let end = ENDS[f];
+        let end = ends[f];
         if t < end {
-            let start = STARTS[f];
+            let start = starts[f];
             let x = field_of(r, f);
             if late_bytes(&x, end - start, 0) {
                 return false;
@@ -143,11 +145,13 @@ fn lay(r: ResTableConfig, t: usize, out: &mut [u8])
     requires { ⌜ (t ≡ span r) × ((t ≤ length (now out)) × (take t (now out) ≡ replicate t 0)) ⌝ }
     ensures { λ _. ⌜ now (out .exit) ≡ bytesWritten r ++ drop t (now (out .entry)) ⌝ }
 {
+    let starts = STARTS;
+    let ends = ENDS;
     let mut f: usize = 0;
     while f < 15 {
-        let end = ENDS[f];
+        let end = ends[f];
         if end <= t {
-            let start = STARTS[f];
+            let start = starts[f];
             let x = field_of(r, f);
             put_at(&x, end - start, start, out);
         }

@@ -1,4 +1,4 @@
--- `put` meets its contract. The invariant: the first j bytes of word are put. Assumes nothing.
+-- `put` meets its contract. The invariant: the first j of the bytes are put. Assumes nothing.
 use Prim.Native.Nat.{_-_, _≤_}
 use native.Mathlib.Numerals.{add-one}
 use native.Mathlib.Omega.{arith}
@@ -11,10 +11,10 @@ use Rattle.buffer.proofs.put.Statement.{statement}
 use Rattle.buffer.proofs.put.Tie as tie
 
 abbrev Inv-loop : tie.InvT-loop
-Inv-loop word at out₀ o₀ j₀ out o j = (j ≤ length word) × (length out ≡ length out₀) × Put out₀ at (take j word) out o
+Inv-loop bytes at out₀ o₀ j₀ out o j = (j ≤ length bytes) × (length out ≡ length out₀) × Put out₀ at (take j bytes) out o
 
 abbrev μ-loop : tie.MeasureT-loop
-μ-loop word at out₀ o₀ j₀ out o j = length word - j
+μ-loop bytes at out₀ o₀ j₀ out o j = length bytes - j
 
 loop-again : tie.Need-loop-again Inv-loop μ-loop
 loop-again c =

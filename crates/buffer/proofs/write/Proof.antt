@@ -1,4 +1,4 @@
--- `write` writes all of word, or refuses. Assumes nothing.
+-- `write` writes all of the bytes, or refuses. Assumes nothing.
 use mathlib.Core.Path.{sym}
 use borrow.Author.Needs.{needs}
 use Rattle.buffer.proofs.Writing.{put-written, written-short}

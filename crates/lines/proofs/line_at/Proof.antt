@@ -8,7 +8,7 @@ use borrow.Author.Needs.{needs}
 use Rattle.buffer.specs.Written.{written}
 use Rattle.laws.proofs.Lists.{rest-is}
 use Rattle.runs.proofs.Records.{front-within}
-use Rattle.record_line.specs.RecordLine.{lineIn}
+use Rattle.record_line.specs.LineIn.{lineIn}
 use Rattle.lines.proofs.Cases.{past-offset, record-went, stop-went}
 use Rattle.lines.proofs.line_at.Statement.{statement}
 use Rattle.lines.proofs.line_at.Tie as tie

@@ -7,7 +7,7 @@ use borrow.Author.Tests.{not-true, not-false}
 use denote.Ref.{now}
 use lib.ListN.{drop}
 use Rattle.record.specs.declared.ResTableConfig.{ResTableConfig}
-use Rattle.reading.specs.Reading.{readTo}
+use Rattle.reading.specs.ReadTo.{readTo}
 use Rattle.reading.proofs.Limits.{read-aged}
 use Rattle.runs.specs.Fronts.{finds}
 use Rattle.laws.proofs.Lists.{rest-is}

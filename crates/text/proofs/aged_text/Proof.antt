@@ -1,7 +1,7 @@
 -- 3, 1, 2 and 4 in their order, then the text. Assumes nothing.
 use mathlib.Core.Path.{sym, _∙_}
 use borrow.Author.Tests.{not-true, not-false}
-use Rattle.text.proofs.Answers.{aged-unknown, aged-refused, aged-held, aged-shown}
+use Rattle.text.proofs.Answers.{aged-unknown, aged-refused, aged-held, aged-unheld}
 use borrow.Author.Needs.{needs}
 use Rattle.text.proofs.aged_text.Statement.{statement}
 use Rattle.text.proofs.aged_text.Tie as tie
@@ -39,6 +39,6 @@ aged-text-spec =
     let taking = taken .before .before in
     let if1 = taking .before in
     let is-age = if1 .before in
-    aged-shown _ _ _ (taking .take .ensures) _ (sym (not-false _ (if1 .if1 .left)) ∙ is-age .is-age .ensures) _ _
+    aged-unheld _ _ _ (taking .take .ensures) _ (sym (not-false _ (if1 .if1 .left)) ∙ is-age .is-age .ensures) _ _
     (parse-aged .parse-aged .result) _ (taken .taken .given .1) (late-bytes .late-bytes .ensures) (if2 .if2 .left)
     (parse-aged .parse-aged .ensures) (as-string .as-string .ensures)))

@@ -14,10 +14,10 @@ use Rattle.writing.proofs.is_tidy.Statement.{statement}
 use Rattle.writing.proofs.is_tidy.Tie as tie
 
 abbrev Inv-loop : tie.InvT-loop
-Inv-loop r t f₀ f = (f ≤ 15) × (t ≡ span r) × (eachBelow f (keeps r) ≡ true)
+Inv-loop r t starts ends f₀ f = (f ≤ 15) × (t ≡ span r) × (eachBelow f (keeps r) ≡ true)
 
 abbrev μ-loop : tie.MeasureT-loop
-μ-loop r t f₀ f = 15 - f
+μ-loop r t starts ends f₀ f = 15 - f
 
 loop-holds : tie.Need-loop-holds Inv-loop μ-loop
 loop-holds c = (omega arith, c .pre, each-none (keeps (c .args .r)))

@@ -17,10 +17,10 @@ use Rattle.writing.proofs.lay.Statement.{statement}
 use Rattle.writing.proofs.lay.Tie as tie
 
 abbrev Inv-loop : tie.InvT-loop
-Inv-loop r t out₀ f₀ out f = (f ≤ 15) × (t ≡ span r) × (t ≤ length out₀) × ((length out ≡ length out₀) × (out ≡ laid r f ++ drop t out₀))
+Inv-loop r t out₀ starts ends f₀ out f = (f ≤ 15) × (t ≡ span r) × (t ≤ length out₀) × ((length out ≡ length out₀) × (out ≡ laid r f ++ drop t out₀))
 
 abbrev μ-loop : tie.MeasureT-loop
-μ-loop r t out₀ f₀ out f = 15 - f
+μ-loop r t out₀ starts ends f₀ out f = 15 - f
 
 loop-holds : tie.Need-loop-holds Inv-loop μ-loop
 loop-holds c =

@@ -23,7 +23,7 @@ use denote.Triple.Entry.{Vals, onEntry}
 use Rattle.reader.specs.declared.RunReader.{RunReader}
 use Rattle.reader.specs.Reader.{readerAt}
 use Rattle.reader.proofs.ByHand.{Ensures, Quiet, Knowns, Walk, leaves, var, part, operand, sets, gone, kept}
-use Rattle.reader.proofs.ReaderLaws.{Row, Shape, Lawss, fieldsOf, Own, Held, offset-known, reader-known}
+use Rattle.reader.proofs.ReaderLaws.{Row, Shape, Lawss, partsOf, Own, Held, offset-known, reader-known}
 use Rattle.reader.proofs.RunReader.Laws as T′
 use Rattle.reader.proofs.RunReader.moved as moved
 use Rattle.reader.proofs.RunReader.moved.Key.{name}
@@ -52,7 +52,7 @@ module _ {M : Type 1} (𝓤 : URA M) (H : Heap 𝓤) (A : Atoms 𝓤) (mem : Mem
       moves : ent 𝓤 (onEntry 𝓤 H A moved.signature κs qs (d, (p, tt)) at) (Held 𝓤 H A κs qs (to d p))
       moves = monoR 𝓤 (toks 𝓤 A 1 κs qs)
           (via 𝓤 _ (monoR 𝓤 (Own 𝓤 H A κs d) (fst∗ 𝓤 (sem 𝓤 H A (usize .own p (uint-vals w64 p))) (emp 𝓤)))
-          (own-put 𝓤 H A W (Shape κs) (Lawss κs) 1 (fieldsOf d) p (T′.lowered d)))
+          (own-put 𝓤 H A W (Shape κs) (Lawss κs) 1 (partsOf d) p (T′.lowered d)))
 
     module _ (C : Calls 𝓤 H) (Λ : Loops 𝓤 H) where
       walk : Walk 𝓤 H A moved.ended ensures known (WpFn 𝓤 H C Λ code.function)

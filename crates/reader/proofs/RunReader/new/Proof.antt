@@ -28,7 +28,7 @@ use Rattle.record.proofs.ages.Age.Laws as G′
 use Rattle.reader.specs.declared.RunReader.{RunReader}
 use Rattle.reader.specs.Reader.{readerOf}
 use Rattle.reader.proofs.ByHand.{Ensures, Quiet, Knowns, Walk, leaves, var, sets, gone, kept}
-use Rattle.reader.proofs.ReaderLaws.{Bytes, fieldsOf, machineOf, Held, Apart, bytes-known, shuts}
+use Rattle.reader.proofs.ReaderLaws.{Lent, partsOf, machineOf, Held, Apart, bytes-known, shuts}
 use Rattle.reader.proofs.RunReader.Laws as T′
 use Rattle.reader.proofs.RunReader.new as new
 use Rattle.reader.proofs.RunReader.new.Key.{name}
@@ -47,7 +47,7 @@ module _ {M : Type 1} (𝓤 : URA M) (H : Heap 𝓤) (A : Atoms 𝓤) (mem : Mem
   ensures κs a r end = new.clauses 𝓤 H A mem run κs a .ensures tt r end
 
   module _ (W : Given 𝓤 H A) where
-    abbrev known : (κs : Lfts 1) → Knowns 𝓤 H A (Bytes κs ∷ [])
+    abbrev known : (κs : Lfts 1) → Knowns 𝓤 H A (Lent κs ∷ [])
     known κs = (bytes-known 𝓤 H A W κs, tt)
 
     -- to what the bytes own, what the numbers own is added
@@ -55,9 +55,9 @@ module _ {M : Type 1} (𝓤 : URA M) (H : Heap 𝓤) (A : Atoms 𝓤) (mem : Mem
         → ent 𝓤 (onEntry 𝓤 H A new.signature κs qs a (slice-vals (a .0), tt)) (Apart 𝓤 H A κs qs (readerOf (a .0)))
     numbered κs qs a =
         let d : RunReader = readerOf (a .0) in
-        monoR 𝓤 (toks 𝓤 A 1 κs qs) (monoR 𝓤 (sem 𝓤 H A (Bytes κs .own (a .0) (slice-vals (a .0))))
+        monoR 𝓤 (toks 𝓤 A 1 κs qs) (monoR 𝓤 (sem 𝓤 H A (Lent κs .own (a .0) (slice-vals (a .0))))
         (owns-make 𝓤 H A Numbers (Ises Numbers) (uint-makes 𝓤 H A W w64, (LL.makes G.the-type G′.the-plain 𝓤 H A, tt))
-        (fieldsOf d .1) (machineOf d .1)
+        (partsOf d .1) (machineOf d .1)
         ((refl, lit< tt), (LL.owes G.the-type G′.the-laws (d .age) ((refl, lit< tt), tt), tt))))
 
     module _ (C : Calls 𝓤 H) (Λ : Loops 𝓤 H) where

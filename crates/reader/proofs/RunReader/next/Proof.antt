@@ -19,7 +19,7 @@ use denote.Triple.Entry.{onEntry}
 use denote.Triple.Statement.{Triple}
 use denote.Triple.Table.{cited}
 use Rattle.reader.proofs.ByHand.{Ensures, Fact, Promised, Quiet, Knowns, Walk, leaves, asks, var, part, operand, sets, stores, gone, framed, kept}
-use Rattle.reader.proofs.ReaderLaws.{Row, Steps, fieldsOf, machineOf, madeOf, Own, Apart, reader-known, opens}
+use Rattle.reader.proofs.ReaderLaws.{Row, Steps, partsOf, machineOf, madeOf, Own, Apart, reader-known, opens}
 use Rattle.runs.proofs.Stepped as S
 use Rattle.runs.proofs.Stepped.Laws as S′
 use Rattle.reader.proofs.RunReader.Laws as T′
@@ -56,7 +56,7 @@ module _ {M : Type 1} (𝓤 : URA M) (H : Heap 𝓤) (A : Atoms 𝓤) (mem : Mem
           sets ! (of-opd ! (part ! 6 0 refl refl refl)) 4 refl (tt, t .0 .1 .0) $
           sets ! (of-opd ! (operand ! (part ! 6 1 {i = 1} refl refl refl) refl)) 2 refl (tt, t .0 .1 .1 .0) $
           sets ! (of-opd ! (part ! 6 2 refl refl refl)) 0 refl (tt, t .0 .1 .1 .1 .0) $
-          move ! (10 ∷ []) $ asks ! fm step.ended φ-step steps (κs, qs, bounds, fieldsOf (a .0), machineOf (a .0))
+          move ! (10 ∷ []) $ asks ! fm step.ended φ-step steps (κs, qs, bounds, partsOf (a .0), machineOf (a .0))
           (and-then ! (var ! 5 refl) (and-then ! (var ! 3 refl) (and-then ! (var ! 1 refl) (no-more !)))) (λ u r e is.
           -- [what the result owns; _4; …; _3; …; _2; …; _1; …; room for _0; …]
           stores ! 9 refl (LL.lawful S.the-type S′.the-laws 𝓤 H A W .typed r _ is .0) $

@@ -29,7 +29,7 @@ use denote.Triple.Table.{cited}
 use Rattle.reader.specs.declared.RunReader.{RunReader}
 use Rattle.reader.specs.Reader.{readerAt, readerOf}
 use Rattle.reader.proofs.ByHand.{Ensures, Fact, Promised, Quiet, Knowns, Walk, leaves, asks, var, stores, gone, framed, kept}
-use Rattle.reader.proofs.ReaderLaws.{Bytes, Row, Steps, bytes-known, offset-known}
+use Rattle.reader.proofs.ReaderLaws.{Lent, Row, Steps, bytes-known, offset-known}
 use Rattle.runs.specs.declared.Stepped.{Stepped}
 use Rattle.runs.proofs.Stepped as S
 use Rattle.runs.proofs.Stepped.Laws as S′
@@ -70,7 +70,7 @@ module _ {M : Type 1} (𝓤 : URA M) (H : Heap 𝓤) (A : Atoms 𝓤) (mem : Mem
   ensures κs a r end = sought.clauses 𝓤 H A mem run κs a .ensures tt r end
 
   module _ (W : Given 𝓤 H A) where
-    abbrev known : (κs : Lfts 1) → Knowns 𝓤 H A (Bytes κs ∷ usize ∷ [])
+    abbrev known : (κs : Lfts 1) → Knowns 𝓤 H A (Lent κs ∷ usize ∷ [])
     known κs = (bytes-known 𝓤 H A W κs, (offset-known 𝓤 H A W, tt))
 
     module _ (C : Calls 𝓤 H) (Λ : Loops 𝓤 H) (fm : FmC 𝓤 H (W .laws) C)
@@ -83,7 +83,7 @@ module _ {M : Type 1} (𝓤 : URA M) (H : Heap 𝓤) (A : Atoms 𝓤) (mem : Mem
           let b = a .0 in
           let p : ℕ = a .1 .0 in
           let at : Vals sought.signature κs = (slice-vals b, (uint-vals w64 p, tt)) in
-          let P₀ : SProp 𝓤 = sem 𝓤 H A (Bytes κs .own b (slice-vals b)) in
+          let P₀ : SProp 𝓤 = sem 𝓤 H A (Lent κs .own b (slice-vals b)) in
           qed W (raw (onEntry 𝓤 H A sought.signature κs qs a at) ∷ []) ∵
           use1 W (raw (onEntry 𝓤 H A new.signature κs qs (b, tt) (slice-vals b, tt)))
           (monoR 𝓤 (toks 𝓤 A 1 κs qs) (monoR 𝓤 P₀ (snd∗ 𝓤 (sem 𝓤 H A (usize .own p (uint-vals w64 p))) (emp 𝓤)))) $ enter ! C Λ code.function _ _ $
