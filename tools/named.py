@@ -1,23 +1,23 @@
 #!/usr/bin/env python3
-"""named.py: names the places of a function that its proof cites.
+"""named.py: names the points of a function that its proof cites.
 
-An answer in a `Proof.antt` gets `c`, what is known at one place of the function's code; `c .before` is the place before it, and so
-back to the start. A chain of many `.before` says nothing to a reader, and a call that is put between two places breaks every chain
-across it. This script gives each place that an answer cites a name, once, from the nearest to the farthest:
+An answer in a `Proof.antt` gets `c`, what is known at one point of the function's code; `c .before` is the point before it, and so
+back to the start. A chain of many `.before` says nothing to a reader, and a call that is put between two points breaks every chain
+across it. This script gives each point that an answer cites a name, once, from the nearest to the farthest:
 
     let told = c .before .before in
     let parse = told .before in
     first-refused (parse .parse .ensures) (told .told .ensures)
 
-so that a change of the code moves one line of each answer. A place is named after what stands there: a call, a branch (`if1`), an arm, and
-`start` for the function's own arguments. No name is more than three `.before` from the one in front of it; where the places that are cited
+so that a change of the code moves one line of each answer. A point is named after what stands there: a call, a branch (`if1`), an arm, and
+`start` for the function's own arguments. No name is more than three `.before` from the one in front of it; where the points that are cited
 lie farther apart, one between them gets a name too. Answers whose chains are three or shorter stay as they are.
 
     tools/named.py CRATE FN..     rewrites crates/CRATE/proofs/**/FN/Proof.antt (FN may be a path below proofs/)
     tools/named.py CRATE          rewrites every one with a chain of more than three, or a line of more than 150 characters
-    FIELD=WORD                    among them: calls the place that holds FIELD by WORD
-    --again                       also lays out what is named already: places that are cited no more lose their names
-    --anchor                      the code has changed: finds each place again by what is cited there, wherever that stands now
+    FIELD=WORD                    among them: calls the point that holds FIELD by WORD
+    --again                       also lays out what is named already: points that are cited no more lose their names
+    --anchor                      the code has changed: finds each point again by what is cited there, wherever that stands now
     --no-gen                      takes target/gen-CRATE as it is; else `rt dev CRATE --generated` writes it first
 
 It also breaks lines at 140 characters, and lists the terms that still stand twice in an answer: those want a `let`, or a law. Run `rt fmt` and
@@ -32,7 +32,7 @@ import sys
 from layout import OPEN, SHUT, flat, leading_lets, tokens, wrapped
 
 MOST = 3        # the longest chain that stays
-# words of the language and its tactics: a place that is called so gets another name
+# words of the language and its tactics: a point that is called so gets another name
 TAKEN = set('data record where use mod pub as open module let in do elim with rw simp search cc omega grw cap now length refl sym ap'.split())
 NAMES = dict(w.split('=') for w in sys.argv[1:] if '=' in w)
 
@@ -51,8 +51,8 @@ def records_of(text):
     return records
 
 
-def places_of(records, name):
-    """The fields of each place, from the one whose record has this name back to the start."""
+def points_of(records, name):
+    """The fields of each point, from the one whose record has this name back to the start."""
     out = []
     while name in records:
         out.append([f for f, _ in records[name] if f != 'before'])
@@ -64,13 +64,13 @@ def places_of(records, name):
 
 
 def generated(crate):
-    """The records that Rattle generated for CRATE's functions: {function: [(need, [the fields of each place, from the nearest])]}."""
+    """The records that Rattle generated for CRATE's functions: {function: [(need, [the fields of each point, from the nearest])]}."""
     base = f'target/gen-{crate}/Rattle.{crate}.proofs/proofs/'
     found = {}
     for path in glob.glob(base + '**/Lts*.antt', recursive=True):
         text = open(path).read()
         records = records_of(text)
-        needs = [(m.group(1), places_of(records, m.group(2))) for m in re.finditer(r'(Need-\S+) =\s*\(c : ([^)\s]+)', text)]
+        needs = [(m.group(1), points_of(records, m.group(2))) for m in re.finditer(r'(Need-\S+) =\s*\(c : ([^)\s]+)', text)]
         found[os.path.dirname(path)[len(base):].lstrip('+')] = needs
     return found
 
@@ -79,12 +79,12 @@ def is_name(tok):
     return tok not in ' ,;' and tok not in OPEN and tok not in SHUT and not tok.startswith('.')
 
 
-class Place(int):
-    """A place in a token list: how far behind `c` it is."""
+class Point(int):
+    """A point in a token list: how far behind `c` it is."""
 
 
 def resolve(toks, known):
-    """Turns each known variable with the `.before`s behind it into a Place."""
+    """Turns each known variable with the `.before`s behind it into a Point."""
     out, i = [], 0
     while i < len(toks):
         t = toks[i]
@@ -92,7 +92,7 @@ def resolve(toks, known):
             k, j = known[t], i + 1
             while toks[j:j + 2] == [' ', '.before']:
                 k, j = k + 1, j + 2
-            out.append(Place(k))
+            out.append(Point(k))
             i = j
         else:
             out.append(t)
@@ -105,10 +105,10 @@ def longest(text):
 
 
 def cited(toks):
-    """{place: the fields that are cited there}"""
+    """{point: the fields that are cited there}"""
     at = {}
     for i, t in enumerate(toks):
-        if isinstance(t, Place):
+        if isinstance(t, Point):
             field = toks[i + 2][1:] if i + 2 < len(toks) and toks[i + 1] == ' ' and str(toks[i + 2]).startswith('.') else None
             at.setdefault(int(t), []).append(field)
     return at
@@ -119,7 +119,7 @@ class Unnamed(Exception):
 
 
 def held(fields, asked):
-    """What stands at the place whose record has these fields, of which those asked for are cited."""
+    """What stands at the point whose record has these fields, of which those asked for are cited."""
     if 'args' in fields or any(f in ('args', 'pre', 'good', 'blocks') for f in asked):
         return 'start'
     pick = [f for f in asked if f and (not fields or f in fields)] or fields
@@ -129,7 +129,7 @@ def held(fields, asked):
 
 
 def names_of(holds, called, used):
-    """A name for each place: the one that it had, or what it holds, without `get-`, and without its number where no other has the same."""
+    """A name for each point: the one that it had, or what it holds, without `get-`, and without its number where no other has the same."""
     short = {p: NAMES[h] if h in NAMES else re.sub('^get-', '', h) for p, h in holds.items()}
     bare = {p: h if re.match(r'if\d+$', h) else re.sub(r'(?<=[a-z])\d+$', '', h) for p, h in short.items()}
     names = {}
@@ -142,10 +142,10 @@ def names_of(holds, called, used):
     return names
 
 
-def stepping(places, chain):
-    """The places, and those between them that need a name so that no step is more than MOST."""
+def stepping(points, chain):
+    """The points, and those between them that need a name so that no step is more than MOST."""
     out, at = [], 0
-    for p in sorted(places):
+    for p in sorted(points):
         while p - at > MOST:
             best = None
             for q in range(at + MOST, at, -1):
@@ -177,39 +177,39 @@ def terms_twice(text):
     return [t for t in sorted(twice, key=len, reverse=True) if not any(t != u and t in u for u in twice)]
 
 
-def holding(places, at, chain, where):
-    """What each place holds. What is cited must stand there, else the chain is another's."""
+def holding(points, at, chain, where):
+    """What each point holds. What is cited must stand there, else the chain is another's."""
     holds = {}
-    for p in places:
+    for p in points:
         fields = chain[p] if chain and p < len(chain) else []
         for f in at.get(p, []):
             if f and fields and f not in fields:
-                raise SystemExit(f'named.py: {where}: place {p} has {fields}, and {f} is cited')
+                raise SystemExit(f'named.py: {where}: point {p} has {fields}, and {f} is cited')
         holds[p] = held(fields, at.get(p, []))
     return holds
 
 
 def anchored(toks, chain, moved):
-    """The same tokens, each place moved to where the field stands now that is cited there; moved learns from where to where."""
+    """The same tokens, each point moved to where the field stands now that is cited there; moved learns from where to where."""
     out = []
     for i, t in enumerate(toks):
         field = toks[i + 2][1:] if i + 2 < len(toks) and toks[i + 1] == ' ' and str(toks[i + 2]).startswith('.') else None
         found = [k for k, fields in enumerate(chain) if field in fields]
-        if isinstance(t, Place) and field and len(found) == 1:
+        if isinstance(t, Point) and field and len(found) == 1:
             moved[int(t)] = found[0]
-            t = Place(found[0])
+            t = Point(found[0])
         out.append(t)
     return out
 
 
 def body_named(body, variables, chain, where, short=False):
-    """An answer with its places named: (lets, the term). Where it is to be short, of two places the nearer alone gets a name."""
+    """An answer with its points named: (lets, the term). Where it is to be short, of two points the nearer alone gets a name."""
     toks = tokens(flat(body))
     lets, rest = leading_lets(toks)
     known, kept, called = {variables[0]: 0}, [], {}
     for name, typ, value in lets:
         value = resolve(value, known)
-        if len(value) == 1 and isinstance(value[0], Place):
+        if len(value) == 1 and isinstance(value[0], Point):
             known[name] = int(value[0])
             if len(name) > 1:
                 called[int(value[0])] = name
@@ -225,19 +225,19 @@ def body_named(body, variables, chain, where, short=False):
         called = {moved[p]: n for p, n in called.items() if p in moved}
     everything = [t for n, ty, v in kept for t in (ty or []) + [' '] + v] + [' '] + rest
     at = cited(everything)
-    places = stepping([p for p in at if p > 0], chain)
-    used = {t for t in everything if not isinstance(t, Place) and is_name(t)} | {n for n, _, _ in kept} | set(variables)
-    names = {0: variables[0], **names_of(holding(places, at, chain, where), called, used)}
+    points = stepping([p for p in at if p > 0], chain)
+    used = {t for t in everything if not isinstance(t, Point) and is_name(t)} | {n for n, _, _ in kept} | set(variables)
+    names = {0: variables[0], **names_of(holding(points, at, chain, where), called, used)}
     lines, here = [], 0
-    if short and len(places) == 2 and len(at.get(places[1], [])) == 1:
-        names[places[1]] = names[places[0]] + ' .before' * (places[1] - places[0])
-        places = places[:1]
-    for p in places:
+    if short and len(points) == 2 and len(at.get(points[1], [])) == 1:
+        names[points[1]] = names[points[0]] + ' .before' * (points[1] - points[0])
+        points = points[:1]
+    for p in points:
         lines.append(f'let {names[p]} = {names[here]}{" .before" * (p - here)} in')
         here = p
 
     def text(ts):
-        return ''.join(names[int(t)] if isinstance(t, Place) else t for t in ts)
+        return ''.join(names[int(t)] if isinstance(t, Point) else t for t in ts)
     for n, ty, v in kept:
         lines.append(f'let {n}{" : " + text(ty) if ty else ""} = {text(v)} in')
     return lines, text(rest)
@@ -298,7 +298,7 @@ def clause(block, needs, where):
     try:
         lets, term = body_named(body, ['c', 'κs'] if ' κs' in m.group(2) else ['c'], chain, name)
     except Unnamed:
-        print(f'{name}: left as it is: which place this is of, is not known')
+        print(f'{name}: left as it is: which point this is of, is not known')
         return block
     report(name, lets, term)
     lines = laid(lets, term, 4, 200 if lets else 0)
@@ -325,7 +325,7 @@ def spec(block, needs, where):
         try:
             lets, term = body_named(arg[m.end():-1], m.group(1).split(), chains[n] if chains else None, name)
         except Unnamed:
-            print(f'{name}: left as it is: which place this is of, is not known')
+            print(f'{name}: left as it is: which point this is of, is not known')
             continue
         report(name, lets, term)
         lines = laid(lets, term, 4, len(m.group(0)) + 1)
