@@ -10,7 +10,7 @@ use Rattle.buffer.proofs.Putting.{put-put, put-nil, put-same, put-past, put-sta
 use Rattle.places.specs.Say.{say, dashAfter, dashAt, Place, sayAll, Says}
 use Rattle.places.specs.Places.{some}
 
--- the dash that place at asks for, and then the words
+-- the dash that offset at asks for, and then the words
 joined : (base t w : List ℕ) {o : List ℕ} {at : ℕ} {n : List ℕ} {r : ℕ}
     → Put base 0 t o at → Put o at (dashAt at ++ w) n r → Put base 0 (t ++ dashAfter t ++ w) n r
 unfolding dashAfter

@@ -17,7 +17,7 @@ unfoldable pub dashAfter : List ℕ → List ℕ
 dashAfter [] = []
 dashAfter (b ∷ t) = ascii "-"
 
--- the same dash by the place in a buffer where the words are to stand: the first has none before it
+-- the same dash by the offset in a buffer where the words are to stand: the first has none before it
 abbrev pub dashAt : ℕ → List ℕ
 dashAt at = cond (ltb 0 at) (ascii "-") []
 
