@@ -1,4 +1,4 @@
--- The search for a number among some, from an offset on. Assumes nothing.
+-- The search for a number among some, from a row on. Assumes nothing.
 use Prim.Native.Nat.{ℕ, _+_, _≤_, _<_}
 use mathlib.Core.Path.{_≡_, sym}
 use mathlib.Core.Bool.{true, false}
@@ -10,7 +10,7 @@ use borrow.Author.Tests.{eq-eqb, ne-eqb}
 use Rattle.record.specs.Ages.{among}
 
 module _ (n : ℕ) (l : List ℕ) (f : ℕ) where
-  -- it stands at offset f
+  -- it stands in row f
   pub among-here : f < length l → getD l f 0 ≡ n → among n (drop f l) ≡ true
   among-here h e = rw (drop-cons l f 0 h, eq-eqb n (getD l f 0) (sym e))
 

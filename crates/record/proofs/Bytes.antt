@@ -14,8 +14,8 @@ each-byte (b ∷ s) h zero = h .0
 each-byte (b ∷ s) h (suc i) = each-byte s (h .1) i
 
 -- the element at each offset is a byte; past the end a list gives 0
-pub placed : (s : List ℕ) → ((i : ℕ) → i < length s → getD s i 0 < 256) → Bytes s
-placed s f i =
+pub by-offset : (s : List ℕ) → ((i : ℕ) → i < length s → getD s i 0 < 256) → Bytes s
+by-offset s f i =
     elim (decLt i (length s)) [
       | yes h ↦ f i h
       | no h ↦ rw (List·getD-eq-default s 0 {n = i} (omega arith)) (omega arith)

@@ -56,13 +56,13 @@ module _ (l : Lined) (new : List ℕ) (o : LineOutcome) (e : linedOutcome l new 
   line-goes r g = (g ∙ ap (λ (x : LineOutcome). cursorPacked (x .goes)) e, ap (λ (x : LineOutcome). x .does .leaves) e)
 
 -- of writing with another size
-module _ (s old : List ℕ) (size : ℕ) (amount : Taken) (told : takenTells amount ≡ takeOf s) where
+module _ (s old : List ℕ) (size : ℕ) (answer : Taken) (told : takenTells answer ≡ takeOf s) where
   -- the record isn't whole
-  pub sized-refused : (why : Refusal) → amount ≡ Taken.Refused why → refused why old ≡ writeSized s size old
+  pub sized-refused : (why : Refusal) → answer ≡ Taken.Refused why → refused why old ≡ writeSized s size old
   sized-refused why e = sym (refused-whole s _ _ why (rw e at told))
 
   -- else what the writer makes of it
-  pub sized-whole : (n : ℕ) (p : Parsed) (r : ResTableConfig) (o : Outcome) → amount ≡ Taken.Took n → parsedOutcome p ≡ parseOf s
+  pub sized-whole : (n : ℕ) (p : Parsed) (r : ResTableConfig) (o : Outcome) → answer ≡ Taken.Took n → parsedOutcome p ≡ parseOf s
       → r ≡ withSize (p .«record») size → o ≡ writeOf r old → o ≡ writeSized s size old
   sized-whole n p r o e g f h =
       let t : success n ≡ takeOf s = rw e at told in

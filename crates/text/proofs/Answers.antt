@@ -24,13 +24,13 @@ use Rattle.text.specs.Text.{plainText, agedText}
 pub put-fits : {old : List ℕ} {w : List ℕ} {new : List ℕ} {r : ℕ} → length w ≤ length old → Put old 0 w new r → outcome (Written.Wrote r) new ≡ written w old
 put-fits h p = rw (front-ends p h) (put-written h p)
 
-module _ (s old : List ℕ) (amount : Taken) (told : takenTells amount ≡ takeOf s) where
+module _ (s old : List ℕ) (answer : Taken) (told : takenTells answer ≡ takeOf s) where
   -- the record's size answers 1 or 2
-  pub plain-refused : (why : Refusal) → amount ≡ Taken.Refused why → refused why old ≡ plainText s old
+  pub plain-refused : (why : Refusal) → answer ≡ Taken.Refused why → refused why old ≡ plainText s old
   plain-refused why e = sym (refused-whole s _ _ why (rw e at told))
 
   -- else the text of what parsing gives
-  pub plain-whole : (n : ℕ) (p : Parsed) (o : Outcome) → amount ≡ Taken.Took n → parsedOutcome p ≡ parseOf s
+  pub plain-whole : (n : ℕ) (p : Parsed) (o : Outcome) → answer ≡ Taken.Took n → parsedOutcome p ≡ parseOf s
       → o ≡ written (textOf (p .«record»)) old → o ≡ plainText s old
   plain-whole n p o e g h =
       let t : success n ≡ takeOf s = rw e at told in
@@ -39,21 +39,21 @@ module _ (s old : List ℕ) (amount : Taken) (told : takenTells amount ≡ takeO
 
   -- at an age
   module _ (a : ℕ) (known : true ≡ isAge a) where
-    pub aged-refused : (why : Refusal) → amount ≡ Taken.Refused why → refused why old ≡ agedText a s old
+    pub aged-refused : (why : Refusal) → answer ≡ Taken.Refused why → refused why old ≡ agedText a s old
     aged-refused why e = sym (age-known a _ _ known ∙ refused-whole s _ _ why (rw e at told))
 
-    -- the place behind 3, 1 and 2
-    behind : (n : ℕ) (late : Bool) → amount ≡ Taken.Took n → late ≡ lateBytes s n a
+    -- what comes behind 3, 1 and 2
+    behind : (n : ℕ) (late : Bool) → answer ≡ Taken.Took n → late ≡ lateBytes s n a
         → agedText a s old ≡ cond late (refused Refusal.HeldBack old) (written (textOf (aged a s)) old)
     unfolding heldBack
     behind n late e l =
         let t : success n ≡ takeOf s = rw e at told in
         age-known a _ _ known ∙ took-whole s _ _ n t ∙ rw (← took-says s n t .0, ← l)
 
-    pub aged-held : (n : ℕ) (late : Bool) → amount ≡ Taken.Took n → late ≡ lateBytes s n a → late ≡ true → refused Refusal.HeldBack old ≡ agedText a s old
+    pub aged-held : (n : ℕ) (late : Bool) → answer ≡ Taken.Took n → late ≡ lateBytes s n a → late ≡ true → refused Refusal.HeldBack old ≡ agedText a s old
     aged-held n late e l q = sym (behind n late e l ∙ rw q)
 
-    pub aged-unheld : (n : ℕ) (late : Bool) (p : Parsed) (o : Outcome) → amount ≡ Taken.Took n → late ≡ lateBytes s n a → late ≡ false
+    pub aged-unheld : (n : ℕ) (late : Bool) (p : Parsed) (o : Outcome) → answer ≡ Taken.Took n → late ≡ lateBytes s n a → late ≡ false
         → parsedOutcome p ≡ parseAged a s → o ≡ written (textOf (p .«record»)) old → o ≡ agedText a s old
     aged-unheld n late p o e l q g h =
         let t : success n ≡ takeOf s = rw e at told in

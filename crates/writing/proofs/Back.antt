@@ -32,7 +32,7 @@ bit-round true = refl
 bit-round false = refl
 
 module _ (r : ResTableConfig) (w : Shaped r) (more : List ℕ) where
-  -- a field that is read stands in its place
+  -- a field that is read stands where the table has it
   there : (f : ℕ) → f < 15 → reads (r .size) f ≡ true → part (bytesWritten r ++ more) (startOf f) (widthOf f) ≡ bytesOf r f
   there f h e =
       let a = startOf f in

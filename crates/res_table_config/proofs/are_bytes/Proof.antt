@@ -36,7 +36,7 @@ use denote.Triple.Table.{entered}
 use denote.Triple.Walked.{says, Stays, stay-none-slice, walkOf, Walks, ends-at, walked, goes-none-slice, walk-meets}
 use Rattle.laws.proofs.Below.{one-more}
 use Rattle.record.specs.Table.{Bytes}
-use Rattle.record.proofs.Bytes.{placed}
+use Rattle.record.proofs.Bytes.{by-offset}
 use Rattle.res_table_config.proofs.are_bytes.Key.{name as #res_table_config·are-bytes}
 use Rattle.res_table_config.proofs.are_bytes as are-bytes
 use Rattle.res_table_config.proofs.are_bytes.Statement as stated
@@ -87,7 +87,7 @@ module _ {M : Type 1} (𝓤 : URA M) (H : Heap 𝓤) (A : Atoms 𝓤) (W : Given
         -- [the token; the slice's three parts and `true`; `true`; bytes; ..; the result's room; ..]
         assigns ! (of-opd ! (unit-lit !)) (from ! (stop !)) (init ! 8 refl (tt, tt)) $
         returns ! (look ! 8 refl) $ forget ! 6 refl $ forget ! 8 refl $ move ! (8 ∷ 9 ∷ []) $ free1 ! $ move ! (6 ∷ 7 ∷ []) $ free1 ! $ free0 ! $
-        move ! (3 ∷ 1 ∷ []) $ fjoin ! $ move ! (3 ∷ 0 ∷ []) $ fjoin ! $ keep ! (1 ∷ 0 ∷ []) $ by ! (exits (placed ys each))))))
+        move ! (3 ∷ 1 ∷ []) $ fjoin ! $ move ! (3 ∷ 0 ∷ []) $ fjoin ! $ keep ! (1 ∷ 0 ∷ []) $ by ! (exits (by-offset ys each))))))
 
 module _ {M : Type 1} (𝓤 : URA M) (H : Heap 𝓤) (A : Atoms 𝓤) (W : Given 𝓤 H A) (mem : Memory → SProp 𝓤) (run : Routine → Fun 𝓤) where
   walks : (C : Calls 𝓤 H) (Λ : Loops 𝓤 H) → Walks 𝓤 H A are-bytes.ended stayed (WpFn 𝓤 H C Λ code.function) (are-bytes.clauses 𝓤 H A mem run)
