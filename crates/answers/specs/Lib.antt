@@ -1,3 +1,4 @@
+pub mod Counted
 pub mod Demand1
 pub mod Numbers
 pub mod Tells

@@ -1,5 +1,6 @@
 // What every call of the library answers: a success with its amount, or a refusal with 01's number.
 ghost use mathlib.Core.Path.{_≡_};
+ghost use Rattle.answers.specs.Counted.{countedWith};
 ghost use Rattle.answers.specs.Numbers.{numberOf};
 ghost use Rattle.answers.specs.Tells.{packedOf, refusal, takenTells, writtenTells};
 
@@ -38,6 +39,12 @@ pub enum Taken {
 pub enum Written {
     Wrote(usize),
     Refused(Refusal),
+}
+
+// The answer of a call that writes a text, and how many replacements the text has. A refused call made none.
+pub struct Counted {
+    pub answer: Written,
+    pub replacements: usize,
 }
 
 impl Refusal {
@@ -96,6 +103,21 @@ impl Written {
         match self {
             Self::Wrote(amount) => Told { number: 0, amount },
             Self::Refused(why) => why.told(),
+        }
+    }
+    // The answer of a call whose text has so many replacements.
+    pub fn counted(self, replacements: usize) -> Counted
+        ensures { λ r. ⌜ r ≡ countedWith replacements self ⌝ }
+    {
+        match self {
+            Self::Wrote(amount) => Counted {
+                answer: Self::Wrote(amount),
+                replacements,
+            },
+            Self::Refused(why) => Counted {
+                answer: Self::Refused(why),
+                replacements: 0,
+            },
         }
     }
 }

@@ -4,10 +4,12 @@ use mathlib.Core.Bool.{false}
 use lib.ListN.{length, replicate}
 use Rattle.buffer.specs.Decimal.{digits, decimal}
 use Rattle.subtag.specs.Utf8.{okAt, frontOf}
+use Rattle.subtag.specs.Replacements.{illFormedBy, replacements}
 use Rattle.subtag.specs.Subtag.{replacedBy, replaced, keep, dropNuls, subtagOf}
 use Rattle.record.specs.declared.ResTableConfig.{ResTableConfig}
 use Rattle.language.specs.Language.{unpacked}
 use Rattle.locale.specs.Locale.{legacyWords, newWords, localeWords}
+use Rattle.locale.specs.Subtags.{localeSubtags, textReplacements}
 use Rattle.places.specs.Say.{say, dashAfter, sayAll}
 use Rattle.places.specs.Places.{placesOf, textOf}
 
@@ -35,3 +37,8 @@ longest =
 pub longest-is : length (textOf longest) ≡ 344
 unfolding textOf placesOf sayAll say dashAfter localeWords newWords legacyWords unpacked subtagOf dropNuls keep replaced replacedBy frontOf okAt decimal digits
 longest-is = refl
+
+-- it has the most replacements, too: 3 in the language, 1 in the region, 4 in the script, 8 and 8
+pub longest-count : textReplacements longest ≡ 24
+unfolding localeSubtags unpacked replacements illFormedBy frontOf okAt
+longest-count = refl

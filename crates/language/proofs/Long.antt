@@ -10,14 +10,14 @@ use Rattle.subtag.proofs.Long.{keep-long, nul-gone, subtag-kept, low-long, low-
 use Rattle.language.specs.Language.{unpacked, languageOf, regionOf}
 
 -- three bytes and a NUL: three are kept at the most
-three-kept : (x y z : ℕ) → length (dropNuls (x ∷ y ∷ z ∷ 0 ∷ [])) ≤ 3
+pub three-kept : (x y z : ℕ) → length (dropNuls (x ∷ y ∷ z ∷ 0 ∷ [])) ≤ 3
 unfolding dropNuls
 three-kept x y z =
     let k = keep 0 [] in
     omega (arith, nul-gone, keep-long z k, keep-long y (keep z k), keep-long x (keep y (keep z k)))
 
 -- what holds of each of the three ways to unpack holds of what is unpacked
-by-way : (P : List ℕ → Type 0) (base a b : ℕ)
+pub by-way : (P : List ℕ → Type 0) (base a b : ℕ)
     → (128 ≤ a → P ((b % 32 + base) ∷ (b / 32 + a % 4 * 8 + base) ∷ (a / 4 % 32 + base) ∷ 0 ∷ []))
     → P (0 ∷ 0 ∷ 0 ∷ 0 ∷ []) → (a < 128 → P (a ∷ b ∷ 0 ∷ 0 ∷ [])) → P (unpacked base a b)
 unfolding unpacked

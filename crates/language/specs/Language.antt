@@ -12,10 +12,18 @@ unpacked base a b =
     ((b % 32 + base) ∷ (b / 32 + a % 4 * 8 + base) ∷ (a / 4 % 32 + base) ∷ 0 ∷ [])
     (cond (eqb a 0) (0 ∷ 0 ∷ 0 ∷ 0 ∷ []) (a ∷ b ∷ 0 ∷ 0 ∷ []))
 
--- a language of two bytes; its packed letters count from 'a'
-abbrev pub languageOf : ℕ → ℕ → List ℕ
-languageOf a b = subtagOf (unpacked 97 a b)
+-- the bytes of a language of two; its packed letters count from 'a'
+abbrev pub languageBytes : ℕ → ℕ → List ℕ
+languageBytes a b = unpacked 97 a b
 
--- a region of two bytes; its packed letters count from '0'
+-- their text
+abbrev pub languageOf : ℕ → ℕ → List ℕ
+languageOf a b = subtagOf (languageBytes a b)
+
+-- the bytes of a region of two; its packed letters count from '0'
+abbrev pub regionBytes : ℕ → ℕ → List ℕ
+regionBytes a b = unpacked 48 a b
+
+-- their text
 abbrev pub regionOf : ℕ → ℕ → List ℕ
-regionOf a b = subtagOf (unpacked 48 a b)
+regionOf a b = subtagOf (regionBytes a b)

@@ -1,4 +1,4 @@
--- How long a line is at the most: in a listing, none is longer than 1,066 bytes. Assumes nothing.
+-- How long a line is at the most: in a listing, none is longer than 1,069 bytes. Assumes nothing.
 use Prim.Native.Nat.{ℕ, suc, _+_, _≤_}
 use mathlib.Core.Path.{_≡_}
 use mathlib.Core.List.{List}
@@ -35,7 +35,7 @@ unfolding stopLine
 stop-long d p stop h = let g = stop-digit stop in simp length-append (omega arith)
 
 -- the line of a record that stands whole in 65,536 bytes, with an index that is at most its offset
-pub whole-long : (a i p t : ℕ) (s : List ℕ) → Bytes s → success t ≡ takeOf s → i ≤ p → p + length s ≤ 65536 → length (recordLine a i p s) ≤ 1066
+pub whole-long : (a i p t : ℕ) (s : List ℕ) → Bytes s → success t ≡ takeOf s → i ≤ p → p + length s ≤ 65536 → length (recordLine a i p s) ≤ 1069
 whole-long a i p t s h e l k =
     let w = took-says s t e .1 in
     record-long 4 4 4 a i p s h (decimal-long 4 i (omega arith)) (decimal-long 4 p (omega arith)) (decimal-long 4 (sizeOf s) (omega arith))

@@ -8,9 +8,11 @@ use Rattle.buffer.specs.Ascii.{ascii}
 use Rattle.buffer.specs.Decimal.{digits, decimal}
 use Rattle.buffer.specs.Written.{written, wrote}
 use Rattle.subtag.specs.Utf8.{okAt, frontOf}
+use Rattle.subtag.specs.Replacements.{illFormedBy, replacements}
 use Rattle.subtag.specs.Subtag.{replacedBy, replaced, keep, dropNuls, subtagOf}
 use Rattle.language.specs.Language.{unpacked}
 use Rattle.locale.specs.Locale.{legacyWords, newWords, localeWords}
+use Rattle.locale.specs.Subtags.{localeSubtags}
 use Rattle.places.specs.Say.{say, dashAfter, sayAll}
 use Rattle.places.specs.Places.{placesOf, textOf}
 use Rattle.record.specs.Ages.{isAge}
@@ -36,8 +38,8 @@ pub examples :
     -- 01's four lines
     (listingOf 64 given
     ≡ (ascii "age 64" ++ newline)
-    ∷ (ascii "0 0 16 FFFAAAAAAAAAAA mcc310-en-rUS-port-hdpi" ++ newline)
-    ∷ (ascii "1 16 0 BBBAAAAAAAAAAA %-" ++ newline)
+    ∷ (ascii "0 0 16 FFFAAAAAAAAAAA mcc310-en-rUS-port-hdpi 0" ++ newline)
+    ∷ (ascii "1 16 0 BBBAAAAAAAAAAA %- 0" ++ newline)
     ∷ (ascii "stop 32 1" ++ newline)
     ∷ [])
     -- no bytes: the run stops at its exact end with 0
@@ -45,17 +47,17 @@ pub examples :
     -- a held-back record is counted, and the run goes on
     × (listingOf 64 (held ++ replicate 16 0)
     ≡ (ascii "age 64" ++ newline)
-    ∷ (ascii "0 0 65 BBBBBBBBBBBBBB %!" ++ newline)
-    ∷ (ascii "1 65 0 BBBAAAAAAAAAAA %-" ++ newline)
+    ∷ (ascii "0 0 65 BBBBBBBBBBBBBB %! 0" ++ newline)
+    ∷ (ascii "1 65 0 BBBAAAAAAAAAAA %- 0" ++ newline)
     ∷ (ascii "stop 81 0" ++ newline)
     ∷ [])
     -- 3 before 5; a call with a short buffer leaves its bytes and gives back its cursor, and one with room goes on
     × (lineOf 33 given Cursor.Start [] ≡ lineRefused Refusal.NotAnAge Cursor.Start [])
-    × (lineOf 64 given (Cursor.Record 1 16) (replicate 24 7) ≡ lineRefused Refusal.ShortBuffer (Cursor.Record 1 16) (replicate 24 7))
-    × (lineOf 64 given (Cursor.Record 1 16) (replicate 26 7)
-    ≡ record { does = wrote (ascii "1 16 0 BBBAAAAAAAAAAA %-" ++ newline) (replicate 26 7); goes = Cursor.Record 2 32 })
+    × (lineOf 64 given (Cursor.Record 1 16) (replicate 26 7) ≡ lineRefused Refusal.ShortBuffer (Cursor.Record 1 16) (replicate 26 7))
+    × (lineOf 64 given (Cursor.Record 1 16) (replicate 28 7)
+    ≡ record { does = wrote (ascii "1 16 0 BBBAAAAAAAAAAA %- 0" ++ newline) (replicate 28 7); goes = Cursor.Record 2 32 })
 unfolding listingOf recordLines offsetsIn stopIn frontAt lineOf lineAt after written ageLine stopLine laidOut shownWords
     escapedAll escaped visible lettersIn markBetween heldBack isAge ifAge ifWhole aged recordBy fieldBy reads textOf placesOf
     sayAll say dashAfter localeWords newWords legacyWords unpacked subtagOf dropNuls keep replaced replacedBy frontOf okAt decimal
-    digits
+    digits replacements illFormedBy localeSubtags
 examples = (refl, refl, refl, refl, refl, refl)

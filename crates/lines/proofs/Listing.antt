@@ -45,7 +45,7 @@ module _ (a : ℕ) (s : List ℕ) (known : isAge a ≡ true) (small : length s �
   }
 
   -- a line, and those behind it
-  then : (c : Cursor) (w : List ℕ) (ws : List (List ℕ)) (next d : Cursor) → lineAt a s c ≡ w → after s c ≡ next → length w ≤ 1066
+  then : (c : Cursor) (w : List ℕ) (ws : List (List ℕ)) (next d : Cursor) → lineAt a s c ≡ w → after s c ≡ next → length w ≤ 1069
       → Gives a s next ws d → Gives a s c (w ∷ ws) d
   unfolding callsOf cursorOf
   then c w ws next d line goes l g = record {
@@ -58,7 +58,7 @@ module _ (a : ℕ) (s : List ℕ) (known : isAge a ≡ true) (small : length s �
       | old ∷ olds ↦ λ r e. rw (step old (r .0)) (g .leads olds (r .1) (omega arith))
     ];
   } where
-    step : (old : List ℕ) → 1066 ≤ length old → lineOf a s c old ≡ record { does = wrote w old; goes = next }
+    step : (old : List ℕ) → 1069 ≤ length old → lineOf a s c old ≡ record { does = wrote w old; goes = next }
     step old r = line-given a s c old small known (rw line (omega arith)) ∙ rw (line, goes)
 
   -- at an index and an offset, as no index of a listing is past its offset

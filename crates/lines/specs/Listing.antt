@@ -14,7 +14,7 @@ use Rattle.lines.specs.Lines.{callsOf, cursorOf, listingOf}
 -- lent buffers with room for any line
 abbrev pub Roomy : List (List ℕ) → Type 0
 Roomy [] = Unit {0}
-Roomy (old ∷ olds) = (1066 ≤ length old) × Roomy olds
+Roomy (old ∷ olds) = (1069 ≤ length old) × Roomy olds
 
 -- what writing lines into buffers comes to, in order
 abbrev pub eachWrote : List (List ℕ) → List (List ℕ) → List Outcome
@@ -22,7 +22,7 @@ eachWrote [] olds = []
 eachWrote (w ∷ ws) [] = []
 eachWrote (w ∷ ws) (old ∷ olds) = wrote w old ∷ eachWrote ws olds
 
--- at most 65,536 bytes, one of the twelve ages, and as many lent buffers of 1,066 bytes or more as the listing has lines: the
+-- at most 65,536 bytes, one of the twelve ages, and as many lent buffers of 1,069 bytes or more as the listing has lines: the
 -- calls from the start on write its lines, in order, and lead to the end
 abbrev pub WholeListing : Type 0
 WholeListing =

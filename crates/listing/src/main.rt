@@ -94,7 +94,7 @@ fn print_listing(bytes: &[u8], out: &mut [u8]) {
 // Lends the buffers: one byte more than a listing takes, so that too much input is seen, and room for any record's line.
 fn main() {
     let mut buffer = [0u8; 65537];
-    let mut out = [0u8; 1101];
+    let mut out = [0u8; 1104];
     let filled = fill(&mut buffer);
     if filled.failed {
         os::fail(b"listing: standard input");

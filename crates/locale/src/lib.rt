@@ -1,34 +1,43 @@
 // The words of a record's locale, in the legacy and in the new format.
-use answers::Written;
+use answers::Counted;
 use buffer::put;
 use buffer::write;
 use language::put_language;
 use language::put_region;
 use record::ResTableConfig;
+use subtag::Copied;
 use subtag::put_subtag;
+ghost use mathlib.Core.Bool.{false};
 ghost use mathlib.Core.Path.{_≡_};
 ghost use Prim.Native.Nat.{_%_, _/_};
 ghost use Rattle.buffer.specs.Ascii.{ascii};
-ghost use Rattle.buffer.specs.Put.{Put};
-ghost use Rattle.buffer.specs.Written.{outcome, written};
+ghost use Rattle.buffer.specs.Counted.{countedOutcome, counting};
+ghost use Rattle.buffer.specs.Written.{written};
+ghost use Rattle.subtag.specs.Copies.{Copies};
+ghost use Rattle.subtag.specs.Replacements.{replacements, replacementsIn};
 ghost use Rattle.subtag.specs.Subtag.{subtagOf};
 ghost use Rattle.locale.specs.Locale.{language, region, begins, hasRegion, scriptProvided, isNew, behind, legacyWords, newWords, localeWords, localeText};
+ghost use Rattle.locale.specs.Tag.{tagWords, tagReplacements};
+ghost use Rattle.locale.specs.Subtags.{languageIn, regionIn, localeReplacements, textReplacements, whereThere};
 
 // The record's language, put.
-fn put_own_language(r: ResTableConfig, at: usize, out: &mut [u8]) -> usize
-    ensures { λ n. ⌜ Put (now (out .entry)) at (language r) (now (out .exit)) n ⌝ }
+fn put_own_language(r: ResTableConfig, at: usize, out: &mut [u8]) -> Copied
+    ensures { λ n. ⌜ Copies (now (out .entry)) at (language r) (replacements (languageIn r)) (now (out .exit)) n ⌝ }
 {
     let locale = r.locale;
     put_language((locale % 256) as u8, (locale / 256 % 256) as u8, at, out)
 }
 
 // The record's region behind its sign, where there is one.
-fn put_own_region(sign: &[u8], r: ResTableConfig, at: usize, out: &mut [u8]) -> usize
-    ensures { λ n. ⌜ Put (now (out .entry)) at (behind (hasRegion r) (now (sign .entry)) (region r)) (now (out .exit)) n ⌝ }
+fn put_own_region(sign: &[u8], r: ResTableConfig, at: usize, out: &mut [u8]) -> Copied
+    ensures { λ n. ⌜ Copies (now (out .entry)) at (behind (hasRegion r) (now (sign .entry)) (region r)) (replacementsIn (whereThere (hasRegion r) (regionIn r))) (now (out .exit)) n ⌝ }
 {
     let locale = r.locale;
     if locale / 65536 % 256 == 0 {
-        return at;
+        return Copied {
+            at,
+            replacements: 0,
+        };
     }
     let a = put(sign, at, out);
     put_region(
@@ -40,14 +49,17 @@ fn put_own_region(sign: &[u8], r: ResTableConfig, at: usize, out: &mut [u8]) -> 
 }
 
 // A subtag behind a sign, where it is there.
-fn put_behind(there: bool, sign: &[u8], src: &[u8], at: usize, out: &mut [u8]) -> usize
-    ensures { λ n. ⌜ Put (now (out .entry)) at (behind there (now (sign .entry)) (subtagOf (now (src .entry)))) (now (out .exit)) n ⌝ }
+fn put_behind(there: bool, sign: &[u8], src: &[u8], at: usize, out: &mut [u8]) -> Copied
+    ensures { λ n. ⌜ Copies (now (out .entry)) at (behind there (now (sign .entry)) (subtagOf (now (src .entry)))) (replacementsIn (whereThere there (now (src .entry)))) (now (out .exit)) n ⌝ }
 {
     if there {
         let a = put(sign, at, out);
         put_subtag(src, a, out)
     } else {
-        at
+        Copied {
+            at,
+            replacements: 0,
+        }
     }
 }
 
@@ -70,16 +82,21 @@ fn eight_begin(src: [u8; 8]) -> bool
 }
 
 // Puts the legacy format.
-fn put_legacy(r: ResTableConfig, at: usize, out: &mut [u8]) -> usize
-    ensures { λ n. ⌜ Put (now (out .entry)) at (legacyWords r) (now (out .exit)) n ⌝ }
+fn put_legacy(r: ResTableConfig, at: usize, out: &mut [u8]) -> Copied
+    requires { ⌜ isNew r ≡ false ⌝ }
+    ensures { λ n. ⌜ Copies (now (out .entry)) at (legacyWords r) (localeReplacements r) (now (out .exit)) n ⌝ }
 {
-    let a = put_own_language(r, at, out);
-    put_own_region(b"-r", r, a, out)
+    let language = put_own_language(r, at, out);
+    let region = put_own_region(b"-r", r, language.at, out);
+    Copied {
+        at: region.at,
+        replacements: language.replacements + region.replacements,
+    }
 }
 
 // The record's script behind a plus, where it was provided.
-fn put_script(r: ResTableConfig, at: usize, out: &mut [u8]) -> usize
-    ensures { λ n. ⌜ Put (now (out .entry)) at (behind (scriptProvided r) (ascii "+") (subtagOf (r .«locale_script»))) (now (out .exit)) n ⌝ }
+fn put_script(r: ResTableConfig, at: usize, out: &mut [u8]) -> Copied
+    ensures { λ n. ⌜ Copies (now (out .entry)) at (behind (scriptProvided r) (ascii "+") (subtagOf (r .«locale_script»))) (replacementsIn (whereThere (scriptProvided r) (r .«locale_script»))) (now (out .exit)) n ⌝ }
 {
     let script = r.locale_script;
     let there = script_provided(r);
@@ -87,25 +104,40 @@ fn put_script(r: ResTableConfig, at: usize, out: &mut [u8]) -> usize
 }
 
 // Eight bytes behind a sign, where they begin with one that isn't 0.
-fn put_begun(sign: &[u8], src: [u8; 8], at: usize, out: &mut [u8]) -> usize
-    ensures { λ n. ⌜ Put (now (out .entry)) at (behind (begins src) (now (sign .entry)) (subtagOf src)) (now (out .exit)) n ⌝ }
+fn put_begun(sign: &[u8], src: [u8; 8], at: usize, out: &mut [u8]) -> Copied
+    ensures { λ n. ⌜ Copies (now (out .entry)) at (behind (begins src) (now (sign .entry)) (subtagOf src)) (replacementsIn (whereThere (begins src) src)) (now (out .exit)) n ⌝ }
 {
     let there = eight_begin(src);
     put_behind(there, sign, &src, at, out)
 }
 
+// Puts the new format as far as the region: its sign, language, script and region.
+fn put_tag(r: ResTableConfig, at: usize, out: &mut [u8]) -> Copied
+    ensures { λ n. ⌜ Copies (now (out .entry)) at (tagWords r) (tagReplacements r) (now (out .exit)) n ⌝ }
+{
+    let begun = put(b"b+", at, out);
+    let language = put_own_language(r, begun, out);
+    let script = put_script(r, language.at, out);
+    let region = put_own_region(b"+", r, script.at, out);
+    Copied {
+        at: region.at,
+        replacements: language.replacements + script.replacements + region.replacements,
+    }
+}
+
 // Puts the new format.
-fn put_new(r: ResTableConfig, at: usize, out: &mut [u8]) -> usize
-    ensures { λ n. ⌜ Put (now (out .entry)) at (newWords r) (now (out .exit)) n ⌝ }
+fn put_new(r: ResTableConfig, at: usize, out: &mut [u8]) -> Copied
+    ensures { λ n. ⌜ Copies (now (out .entry)) at (newWords r) (localeReplacements r) (now (out .exit)) n ⌝ }
 {
     let variant = r.locale_variant;
     let numbering = r.locale_numbering_system;
-    let a = put(b"b+", at, out);
-    let b = put_own_language(r, a, out);
-    let c = put_script(r, b, out);
-    let d = put_own_region(b"+", r, c, out);
-    let e = put_begun(b"+", variant, d, out);
-    put_begun(b"+u+nu+", numbering, e, out)
+    let tag = put_tag(r, at, out);
+    let longer = put_begun(b"+", variant, tag.at, out);
+    let longest = put_begun(b"+u+nu+", numbering, longer.at, out);
+    Copied {
+        at: longest.at,
+        replacements: tag.replacements + longer.replacements + longest.replacements,
+    }
 }
 
 // Whether the new format is called for.
@@ -124,8 +156,8 @@ fn is_new(r: ResTableConfig) -> bool
 }
 
 // Puts the words of a record's locale, whether or not they are said.
-pub fn put_locale(r: ResTableConfig, at: usize, out: &mut [u8]) -> usize
-    ensures { λ n. ⌜ Put (now (out .entry)) at (localeWords r) (now (out .exit)) n ⌝ }
+pub fn put_locale(r: ResTableConfig, at: usize, out: &mut [u8]) -> Copied
+    ensures { λ n. ⌜ Copies (now (out .entry)) at (localeWords r) (localeReplacements r) (now (out .exit)) n ⌝ }
 {
     if is_new(r) {
         put_new(r, at, out)
@@ -135,21 +167,34 @@ pub fn put_locale(r: ResTableConfig, at: usize, out: &mut [u8]) -> usize
 }
 
 // Puts the words of a record's locale where they are said.
-fn put_said(r: ResTableConfig, at: usize, out: &mut [u8]) -> usize
-    ensures { λ n. ⌜ Put (now (out .entry)) at (localeText r) (now (out .exit)) n ⌝ }
+fn put_said(r: ResTableConfig, at: usize, out: &mut [u8]) -> Copied
+    ensures { λ n. ⌜ Copies (now (out .entry)) at (localeText r) (textReplacements r) (now (out .exit)) n ⌝ }
 {
     if r.locale % 256 == 0 {
-        at
+        Copied {
+            at,
+            replacements: 0,
+        }
     } else {
         put_locale(r, at, out)
     }
 }
 
 // Writes what a record's locale says, as 000 appends it to an empty text; where out is shorter, it is left as it is.
-pub fn write_locale(r: ResTableConfig, out: &mut [u8]) -> Written
-    ensures { λ n. ⌜ outcome n (now (out .exit)) ≡ written (localeText r) (now (out .entry)) ⌝ }
+pub fn write_locale(r: ResTableConfig, out: &mut [u8]) -> Counted
+    ensures { λ n. ⌜ countedOutcome n (now (out .exit)) ≡ counting (textReplacements r) (written (localeText r) (now (out .entry))) ⌝ }
 {
     let mut own = [0u8; 84];
-    let n = put_said(r, 0, &mut own);
-    write(&own[..n], out)
+    let copied = put_said(r, 0, &mut own);
+    let answer = write(&own[..copied.at], out);
+    answer.counted(copied.replacements)
+}
+
+// How many replacements the text of a record has. They are counted with no room to write, so nothing is written.
+pub fn replacements_in(r: ResTableConfig) -> usize
+    ensures { λ n. ⌜ n ≡ textReplacements r ⌝ }
+{
+    let mut none = [0u8; 0];
+    let counted = put_said(r, 0, &mut none);
+    counted.replacements
 }

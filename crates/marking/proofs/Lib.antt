@@ -1,3 +1,4 @@
+pub mod HeldAnswer
 pub mod Zeros
 pub mod Marking
 pub mod Answering

@@ -17,8 +17,10 @@ use places_first::put_first;
 use put::pixel_place;
 use put::version_place;
 use record::ResTableConfig;
+use subtag::Copied;
 ghost use lib.ListN.{take, drop};
-ghost use Rattle.buffer.specs.Put.{Put};
+ghost use Rattle.subtag.specs.Copies.{Copies};
+ghost use Rattle.locale.specs.Subtags.{textReplacements};
 ghost use Rattle.places.specs.Say.{Says};
 ghost use Rattle.places.specs.Places.{placesOf, textOf};
 
@@ -49,10 +51,13 @@ fn places_from_18(r: ResTableConfig, at: usize, out: &mut [u8]) -> usize
 }
 
 // Puts the text of a record at the front of out.
-pub fn put_text(r: ResTableConfig, out: &mut [u8]) -> usize
-    ensures { λ n. ⌜ Put (now (out .entry)) 0 (textOf r) (now (out .exit)) n ⌝ }
+pub fn put_text(r: ResTableConfig, out: &mut [u8]) -> Copied
+    ensures { λ n. ⌜ Copies (now (out .entry)) 0 (textOf r) (textReplacements r) (now (out .exit)) n ⌝ }
 {
     let a = put_first(r, out);
-    let b = places_from_13(r, a, out);
-    places_from_18(r, b, out)
+    let b = places_from_13(r, a.at, out);
+    Copied {
+        at: places_from_18(r, b, out),
+        replacements: a.replacements,
+    }
 }

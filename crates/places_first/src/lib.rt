@@ -15,22 +15,29 @@ use put::dp_place;
 use put::label_place;
 use put::locale_place;
 use record::ResTableConfig;
+use subtag::Copied;
 ghost use mathlib.Core.List.{[]};
+ghost use mathlib.Core.Path.{_≡_};
 ghost use lib.ListN.{take, drop};
-ghost use Rattle.buffer.specs.Put.{Put};
+ghost use Rattle.subtag.specs.Copies.{Copies};
+ghost use Rattle.locale.specs.Subtags.{textReplacements};
 ghost use Rattle.places.specs.Say.{Says, sayAll};
 ghost use Rattle.places.specs.Places.{placesOf};
 
 // Places 0 to 3: the codes, the locale and the gender.
-fn places_from_0(r: ResTableConfig, at: usize, out: &mut [u8]) -> usize
-    ensures { λ n. ⌜ Says (now (out .entry)) at (take 4 (placesOf r)) (now (out .exit)) n ⌝ }
+fn places_from_0(r: ResTableConfig, at: usize, out: &mut [u8]) -> Copied
+    ensures { λ n. ⌜ Says (now (out .entry)) at (take 4 (placesOf r)) (now (out .exit)) (n .at) ⌝ }
+    ensures { λ n. ⌜ n .replacements ≡ textReplacements r ⌝ }
 {
     let codes = r.get_mcc_mnc();
     let gender = r.get_grammatical_inflection();
     let a = label_place(b"mcc", codes.mcc, at, out);
     let b = label_place(b"mnc", codes.mnc, a, out);
-    let c = locale_place(r, b, out);
-    grammatical_gender_place(gender, c, out)
+    let locale = locale_place(r, b, out);
+    Copied {
+        at: grammatical_gender_place(gender, locale.at, out),
+        replacements: locale.replacements,
+    }
 }
 
 // Places 4 to 7: the layout direction and the dp values.
@@ -58,11 +65,14 @@ fn places_from_8(r: ResTableConfig, at: usize, out: &mut [u8]) -> usize
     hdr_place(second.color_mode, d, out)
 }
 
-// Puts places 0 to 12 at the front of out.
-pub fn put_first(r: ResTableConfig, out: &mut [u8]) -> usize
-    ensures { λ n. ⌜ Put (now (out .entry)) 0 (sayAll [] (take 13 (placesOf r))) (now (out .exit)) n ⌝ }
+// Puts places 0 to 12 at the front of out. The locale is among them, and with it all that is replaced.
+pub fn put_first(r: ResTableConfig, out: &mut [u8]) -> Copied
+    ensures { λ n. ⌜ Copies (now (out .entry)) 0 (sayAll [] (take 13 (placesOf r))) (textReplacements r) (now (out .exit)) n ⌝ }
 {
     let a = places_from_0(r, 0, out);
-    let b = places_from_4(r, a, out);
-    places_from_8(r, b, out)
+    let b = places_from_4(r, a.at, out);
+    Copied {
+        at: places_from_8(r, b, out),
+        replacements: a.replacements,
+    }
 }

@@ -4,8 +4,11 @@ use buffer::put_label;
 use locale::put_locale;
 use places::dash;
 use record::ResTableConfig;
+use subtag::Copied;
 ghost use mathlib.Core.List.{_∷_, []};
+ghost use mathlib.Core.Path.{_≡_};
 ghost use Rattle.locale.specs.Locale.{localeSaid, localeWords};
+ghost use Rattle.locale.specs.Subtags.{textReplacements};
 ghost use Rattle.places.specs.Say.{Says};
 ghost use Rattle.places.specs.Places.{labelPlace, dpPlace};
 
@@ -31,12 +34,16 @@ pub(crate) fn dp_place(front: &[u8], n: u16, at: usize, out: &mut [u8]) -> usize
     put_between(front, n as u64, b"dp", a, out)
 }
 
-// The locale.
-pub(crate) fn locale_place(r: ResTableConfig, at: usize, out: &mut [u8]) -> usize
-    ensures { λ n. ⌜ Says (now (out .entry)) at ((localeSaid r, localeWords r) ∷ []) (now (out .exit)) n ⌝ }
+// The locale, the one place with subtags.
+pub(crate) fn locale_place(r: ResTableConfig, at: usize, out: &mut [u8]) -> Copied
+    ensures { λ n. ⌜ Says (now (out .entry)) at ((localeSaid r, localeWords r) ∷ []) (now (out .exit)) (n .at) ⌝ }
+    ensures { λ n. ⌜ n .replacements ≡ textReplacements r ⌝ }
 {
     if r.locale % 256 == 0 {
-        return at;
+        return Copied {
+            at,
+            replacements: 0,
+        };
     }
     let a = dash(at, out);
     put_locale(r, a, out)

@@ -50,7 +50,7 @@ module _ {A : Type 0} (s : List ℕ) (refuse : Refusal → A) (give : A) where
       let k : sizeOf s ≤ length s = omega arith in
       rw (le-ltb (length s) 16 g, le-ltb (length s) (sizeOf s) k)
 
-cond-map : {A B : Type 0} (f : A → B) (b : Bool) (x y : A) → f (cond b x y) ≡ cond b (f x) (f y)
+pub cond-map : {A B : Type 0} (f : A → B) (b : Bool) (x y : A) → f (cond b x y) ≡ cond b (f x) (f y)
 cond-map f true x y = refl
 cond-map f false x y = refl
 
@@ -60,6 +60,11 @@ pub whole-map : {A B : Type 0} (f : A → B) (s : List ℕ) (refuse : Refusal �
 unfolding ifWhole
 whole-map f s refuse give =
     rw (cond-map f (ltb (length s) 16) (refuse Refusal.FewerThan16) _, cond-map f (ltb (length s) (sizeOf s)) (refuse Refusal.FewerThanSize) give)
+
+pub age-map : {A B : Type 0} (f : A → B) (a : ℕ) (refuse : Refusal → A) (give : A)
+    → f (ifAge a refuse give) ≡ ifAge a (λ why. f (refuse why)) (f give)
+unfolding ifAge
+age-map f a refuse give = cond-map f (isAge a) give (refuse Refusal.NotAnAge)
 
 -- an age, and a number that is none
 module _ {A : Type 0} (a : ℕ) (refuse : Refusal → A) (give : A) where

@@ -1,24 +1,26 @@
 -- What a line shows of a whole record, by what is read of its bytes. Assumes nothing.
 use Prim.Native.Nat.{ℕ, _≤_}
 use mathlib.Core.Path.{_≡_, sym, ap, _∙_}
-use mathlib.Core.Bool.{Bool, true}
-use mathlib.Core.List.{List}
+use mathlib.Core.Bool.{true}
+use mathlib.Core.List.{List, _++_, append-assoc}
 use native.Mathlib.Omega.{arith}
 use lib.ListN.{length}
 use borrow.Author.Tests.{le-leb}
 use Rattle.answers.specs.Tells.{success}
 use Rattle.buffer.specs.Written.{Outcome, written}
-use Rattle.record.specs.declared.ResTableConfig.{ResTableConfig}
 use Rattle.record.specs.Ages.{isAge}
 use Rattle.record.proofs.Twelve.{age-bounds}
 use Rattle.reading.specs.Reading.{takeOf, reads, fieldBy, recordBy, aged, sizeOf, taken}
 use Rattle.reading.proofs.Limits.{read-aged}
 use Rattle.reading.proofs.Whole.{took-says}
-use Rattle.marking.specs.Marks.{lateBytes, heldBack, marksOf, lettersIn}
+use Rattle.marking.specs.Marks.{heldBack}
 use Rattle.marking.proofs.Answering.{gives}
-use Rattle.places.specs.Places.{textOf}
-use Rattle.record_line.specs.RecordLine.{shownUnless, laidOut, recordLine, recordLineOf}
+use Rattle.record_line.specs.RecordLine.{recordLine, recordLineOf}
 use Rattle.record_line.specs.LineIn.{lineIn}
+
+-- a number between words, behind a text: in a row with it
+pub in-row : (x a b c : List ℕ) → x ++ (a ++ b ++ c) ≡ x ++ a ++ b ++ c
+in-row x a b c = sym (append-assoc x (a ++ b) c) ∙ ap (λ (l : List ℕ). l ++ c) (sym (append-assoc x a b))
 
 module _ (a : ℕ) (s : List ℕ) (known : true ≡ isAge a) where
   -- the size that a reader of an age reads is the declared one

@@ -116,5 +116,7 @@ unfolding laidOut
 record-ended a i p r = record {
   front = _;
   is = refl;
-  unbroken = both (both (both (both (both (both (both (both (number i) gap) (number p)) gap) (number (sizeOf r))) gap) (marks a (taken r) r)) gap) (text (heldBack a r) (textOf (aged a r)));
+  unbroken =
+      both (both (both (both (both (both (both (both (both (both (number i) gap) (number p)) gap) (number (sizeOf r))) gap) (marks a (taken r) r)) gap)
+      (text (heldBack a r) (textOf (aged a r)))) gap) (number _);
 }

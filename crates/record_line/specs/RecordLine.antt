@@ -1,4 +1,4 @@
--- 01, "The listing": the line of a record, how it shows a text, and a call for it. Assumes nothing.
+-- 01, "The listing", and 02, K1: the line of a record, how it shows a text, and a call for it. Assumes nothing.
 use Prim.Native.Nat.{ℕ, _/_, _%_}
 use mathlib.Core.List.{List, [], _∷_, _++_}
 use mathlib.Core.Bool.{Bool, cond, not, _&&_}
@@ -9,6 +9,7 @@ use Rattle.buffer.specs.Decimal.{decimal}
 use Rattle.buffer.specs.Written.{Outcome, written, refused}
 use Rattle.reading.specs.Reading.{aged, sizeOf, ifWhole, ifAge}
 use Rattle.marking.specs.Marks.{letter, heldBack, marksOf}
+use Rattle.locale.specs.Subtags.{textReplacements}
 use Rattle.places.specs.Places.{textOf}
 
 -- the capital hexadecimal digits
@@ -41,6 +42,10 @@ shownWords (b ∷ w) = escapedAll (b ∷ w)
 abbrev pub shownUnless : Bool → List ℕ → List ℕ
 shownUnless held w = cond held (ascii "%!") (shownWords w)
 
+-- the replacements in a text that isn't held back; a held-back one shows none
+abbrev pub replacementsUnless : Bool → ℕ → ℕ
+replacementsUnless held n = cond held 0 n
+
 -- each line is ended by one newline
 abbrev pub newline : List ℕ
 newline = 10 ∷ []
@@ -49,14 +54,15 @@ newline = 10 ∷ []
 abbrev pub space : List ℕ
 space = ascii " "
 
--- a record's line: index, offset, declared size, marks in field order, text
-unfoldable pub laidOut : ℕ → ℕ → ℕ → List ℕ → List ℕ → List ℕ
-laidOut i p size marks text =
-    decimal i ++ space ++ decimal p ++ space ++ decimal size ++ space ++ marks ++ space ++ text ++ newline
+-- a record's line: index, offset, declared size, marks in field order, text, number of replacements
+unfoldable pub laidOut : ℕ → ℕ → ℕ → List ℕ → List ℕ → ℕ → List ℕ
+laidOut i p size marks text n =
+    decimal i ++ space ++ decimal p ++ space ++ decimal size ++ space ++ marks ++ space ++ text ++ space ++ decimal n ++ newline
 
 -- the line of the record at the front of s, for a reader of age a
 abbrev pub recordLine : ℕ → ℕ → ℕ → List ℕ → List ℕ
-recordLine a i p s = laidOut i p (sizeOf s) (marksOf a s) (shownUnless (heldBack a s) (textOf (aged a s)))
+recordLine a i p s =
+    laidOut i p (sizeOf s) (marksOf a s) (shownUnless (heldBack a s) (textOf (aged a s))) (replacementsUnless (heldBack a s) (textReplacements (aged a s)))
 
 -- a call for that line: 3, 1, 2, then 5
 abbrev pub recordLineOf : ℕ → ℕ → ℕ → List ℕ → List ℕ → Outcome

@@ -3,9 +3,12 @@ use buffer::put;
 use buffer::put_byte;
 use places_all::put_text;
 use record::ResTableConfig;
+use subtag::Copied;
 use text::LONGEST_TEXT;
 ghost use mathlib.Core.Path.{_≡_};
 ghost use Rattle.buffer.specs.Put.{Put};
+ghost use Rattle.subtag.specs.Copies.{Copies};
+ghost use Rattle.locale.specs.Subtags.{textReplacements};
 ghost use Rattle.places.specs.Places.{textOf};
 ghost use Rattle.record_line.specs.RecordLine.{escaped, escapedAll, shownWords, visible};
 
@@ -51,13 +54,19 @@ fn put_escaped(text: &[u8], at: usize, out: &mut [u8]) -> usize
 }
 
 // Puts the text of a record.
-pub fn put_shown(r: ResTableConfig, at: usize, out: &mut [u8]) -> usize
-    ensures { λ n. ⌜ Put (now (out .entry)) at (shownWords (textOf r)) (now (out .exit)) n ⌝ }
+pub fn put_shown(r: ResTableConfig, at: usize, out: &mut [u8]) -> Copied
+    ensures { λ n. ⌜ Copies (now (out .entry)) at (shownWords (textOf r)) (textReplacements r) (now (out .exit)) n ⌝ }
 {
     let mut own = [0u8; LONGEST_TEXT];
-    let n = put_text(r, &mut own);
-    if n == 0 {
-        return put(b"%-", at, out);
+    let copied = put_text(r, &mut own);
+    if copied.at == 0 {
+        return Copied {
+            at: put(b"%-", at, out),
+            replacements: copied.replacements,
+        };
     }
-    put_escaped(&own[..n], at, out)
+    Copied {
+        at: put_escaped(&own[..copied.at], at, out),
+        replacements: copied.replacements,
+    }
 }

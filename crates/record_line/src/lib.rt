@@ -5,6 +5,7 @@ use answers::Refusal;
 use answers::Taken;
 use answers::Written;
 use buffer::put;
+use buffer::put_between;
 use buffer::put_byte;
 use buffer::put_decimal;
 use buffer::write;
@@ -16,18 +17,21 @@ use reading::read_to;
 use reading::take;
 use record::Age;
 use record::ResTableConfig;
+use subtag::Copied;
 ghost use mathlib.Core.Path.{_≡_};
 ghost use mathlib.Core.List.{_++_};
 ghost use Rattle.buffer.specs.Decimal.{decimal};
 ghost use Rattle.buffer.specs.Put.{Put};
 ghost use Rattle.buffer.specs.Written.{outcome, written};
 ghost use Rattle.marking.specs.Marks.{lateBytes};
+ghost use Rattle.subtag.specs.Copies.{Copies};
+ghost use Rattle.locale.specs.Subtags.{textReplacements};
 ghost use Rattle.places.specs.Places.{textOf};
-ghost use Rattle.record_line.specs.RecordLine.{recordLineOf, shownUnless, space};
+ghost use Rattle.record_line.specs.RecordLine.{recordLineOf, replacementsUnless, shownUnless, space};
 ghost use Rattle.record_line.specs.LineIn.{lineIn};
 
 // No line of a record is longer, whatever the index and the offset.
-pub const LONGEST_LINE: usize = 1101;
+pub const LONGEST_LINE: usize = 1104;
 
 // Puts a record's index, its offset and its declared size, each with a space behind it.
 fn put_numbers(index: usize, offset: usize, size: u32, out: &mut [u8]) -> usize
@@ -41,7 +45,7 @@ fn put_numbers(index: usize, offset: usize, size: u32, out: &mut [u8]) -> usize
     put_byte(b' ', e, out)
 }
 
-// Puts the text of a record, or "%!" where one of its t bytes at the age or later isn't zero.
+// Puts the text of a record, or "%!" where one of its t bytes at the age or later isn't zero: then nothing was replaced.
 fn put_unless_held(
     bytes: &[u8],
     t: usize,
@@ -49,11 +53,14 @@ fn put_unless_held(
     r: ResTableConfig,
     at: usize,
     out: &mut [u8],
-) -> usize
-    ensures { λ n. ⌜ Put (now (out .entry)) at (shownUnless (lateBytes (now (bytes .entry)) t age) (textOf r)) (now (out .exit)) n ⌝ }
+) -> Copied
+    ensures { λ n. ⌜ Copies (now (out .entry)) at (shownUnless (lateBytes (now (bytes .entry)) t age) (textOf r)) (replacementsUnless (lateBytes (now (bytes .entry)) t age) (textReplacements r)) (now (out .exit)) n ⌝ }
 {
     if late_bytes(bytes, t, age) {
-        put(b"%!", at, out)
+        Copied {
+            at: put(b"%!", at, out),
+            replacements: 0,
+        }
     } else {
         put_shown(r, at, out)
     }
@@ -74,8 +81,8 @@ fn put_line(
     let a = put_numbers(index, offset, r.size, out);
     let b = put_marks(bytes, t, age, a, out);
     let c = put_byte(b' ', b, out);
-    let d = put_unless_held(bytes, t, age, r, c, out);
-    put_byte(b'\n', d, out)
+    let text = put_unless_held(bytes, t, age, r, c, out);
+    put_between(b" ", text.replacements as u64, b"\n", text.at, out)
 }
 
 // Writes the line of a record of t bytes at the front of bytes, for a caller who knows that it is whole and that the age is one of

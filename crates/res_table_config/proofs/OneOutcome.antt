@@ -7,7 +7,7 @@ use Rattle.buffer.specs.Written.{Outcome}
 use Rattle.res_table_config.specs.Face.{answerTells, answerOutcome}
 use Rattle.res_table_config.proofs.Packing.{packed-is}
 
--- of `res_table_config_take` and `res_table_config_order`, whatever t is defined to be: the answer is fixed
+-- of `res_table_config_take`, `res_table_config_replaced` and `res_table_config_order`, whatever t is defined to be: the answer is fixed
 pub one-answer : {t : Told} (r s : ℕ) → answerTells r ≡ t → answerTells s ≡ t → r ≡ s
 one-answer {t} r s p q = packed-is r t p ∙ sym (packed-is s t q)
 

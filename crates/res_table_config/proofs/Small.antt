@@ -20,8 +20,9 @@ use Rattle.reading.proofs.Whole.{taking, takes, refuses, took-says, took-whole,
 use Rattle.marking.specs.Marks.{marksOf, marksOutcome, heldBack}
 use Rattle.marking.proofs.Marking.{marks-length}
 use Rattle.places.specs.Places.{textOf}
+use Rattle.text.specs.Counted.{replacementsOf}
 use Rattle.text.specs.Text.{plainText, agedText}
-use Rattle.text.proofs.Ranges.{part-below, plain-long, aged-long}
+use Rattle.text.proofs.Ranges.{part-below, plain-long, aged-long, aged-most}
 use Rattle.res_table_config.specs.Face.{orderTold}
 use Rattle.res_table_config.specs.Small.{Small}
 
@@ -69,6 +70,13 @@ aged-small a s old bytes =
     by-age Tells _ _ refusal-small a
     (by-whole Tells _ _ refusal-small s
     (λ whole. chosen Tells (heldBack a s) (refusal-small Refusal.HeldBack) (written-small (textOf (aged a s)) old (omega (arith, aged-long a s bytes)))))
+
+-- of the replacements in a text: there are 24 at the most
+pub replaced-small : (a : ℕ) (s : List ℕ) → Bytes s → Small (replacementsOf a s)
+replaced-small a s bytes =
+    by-age Small _ _ refusal-small a
+    (by-whole Small _ _ refusal-small s
+    (λ whole. chosen Small (heldBack a s) (refusal-small Refusal.HeldBack) (success-small _ (omega (arith, aged-most a s bytes)))))
 
 -- of marks: there are fourteen
 pub marks-small : (a : ℕ) (s old : List ℕ) → Small (marksOutcome a s old .tells)

@@ -1,4 +1,4 @@
-// The C face: five calls on numbers and byte slices, for the intake tool. A slice arrives as a pointer and then a length.
+// The C face: six calls on numbers and byte slices, for the intake tool. A slice arrives as a pointer and then a length.
 //
 // Each answers one number: 01's number times 2^32, and the amount. So a success is below 2^32, and a refusal has amount 0.
 // A refusal changes no lent byte. Ages arrive as plain numbers.
@@ -10,11 +10,13 @@ use reading::take;
 use record::Age;
 use text::aged_text;
 use text::plain_text;
+use text::replacements;
 ghost use mathlib.Core.Path.{_≡_};
 ghost use Prim.Native.Nat.{_<_};
 ghost use Rattle.marking.specs.Marks.{marksOutcome};
 ghost use Rattle.reading.specs.Reading.{takeOf};
 ghost use Rattle.record.specs.Table.{Bytes};
+ghost use Rattle.text.specs.Counted.{replacementsOf};
 ghost use Rattle.text.specs.Text.{agedText, plainText};
 ghost use Rattle.res_table_config.specs.Face.{answerOutcome, answerTells, orderTold};
 
@@ -47,7 +49,8 @@ pub extern "C" fn res_table_config_text(bytes: &[u8], out: &mut [u8]) -> u64
     ensures { λ r. ⌜ answerOutcome r (now (out .exit)) ≡ plainText (now (bytes .entry)) (now (out .entry)) ⌝ }
 {
     are_bytes(bytes);
-    let answer = plain_text(bytes, out);
+    let counted = plain_text(bytes, out);
+    let answer = counted.answer;
     packed(answer.told())
 }
 
@@ -57,7 +60,18 @@ pub extern "C" fn res_table_config_aged_text(bytes: &[u8], age: u32, out: &mut [
     ensures { λ r. ⌜ answerOutcome r (now (out .exit)) ≡ agedText age (now (bytes .entry)) (now (out .entry)) ⌝ }
 {
     are_bytes(bytes);
-    let answer = aged_text(bytes, Age(age), out);
+    let counted = aged_text(bytes, Age(age), out);
+    let answer = counted.answer;
+    packed(answer.told())
+}
+
+// How many replacements the text of the record at the front of bytes has for a reader of an age.
+#[no_mangle]
+pub extern "C" fn res_table_config_replaced(bytes: &[u8], age: u32) -> u64
+    ensures { λ r. ⌜ answerTells r ≡ replacementsOf age (now (bytes .entry)) ⌝ }
+{
+    are_bytes(bytes);
+    let answer = replacements(bytes, Age(age));
     packed(answer.told())
 }
 

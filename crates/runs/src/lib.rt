@@ -1,4 +1,5 @@
 // Runs of records, end to end: what stands at an offset, a step there, the walk to where a run stops, and the calls at an offset.
+use answers::Counted;
 use answers::Refusal;
 use answers::Taken;
 use answers::Told;
@@ -13,9 +14,10 @@ use record::blank;
 use text::aged_text;
 ghost use mathlib.Core.Path.{_≡_};
 ghost use lib.ListN.{drop};
+ghost use Rattle.buffer.specs.Counted.{countedOutcome};
 ghost use Rattle.buffer.specs.Written.{outcome};
 ghost use Rattle.marking.specs.Marks.{marksOutcome};
-ghost use Rattle.text.specs.Text.{agedText};
+ghost use Rattle.text.specs.Counted.{countedAged};
 ghost use Rattle.runs.specs.Fronts.{stepTells, stopTells};
 ghost use Rattle.runs.specs.Runs.{frontAt, runOf, stepOf, stepOutcome, stepStays};
 
@@ -158,8 +160,8 @@ pub fn walk(bytes: &[u8], offset: usize) -> RunEnd
 }
 
 // Writes the text of the record at an offset for a reader of an age.
-pub fn text_at(bytes: &[u8], offset: usize, age: Age, out: &mut [u8]) -> Written
-    ensures { λ r. ⌜ outcome r (now (out .exit)) ≡ agedText (age .0) (drop offset (now (bytes .entry))) (now (out .entry)) ⌝ }
+pub fn text_at(bytes: &[u8], offset: usize, age: Age, out: &mut [u8]) -> Counted
+    ensures { λ r. ⌜ countedOutcome r (now (out .exit)) ≡ countedAged (age .0) (drop offset (now (bytes .entry))) (now (out .entry)) ⌝ }
 {
     let from = lesser(offset, bytes.len());
     aged_text(&bytes[from..], age, out)

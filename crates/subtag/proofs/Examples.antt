@@ -3,6 +3,7 @@ use Prim.Native.Nat.{ℕ}
 use mathlib.Core.Path.{_≡_, refl}
 use mathlib.Core.List.{List, [], _∷_, _++_}
 use Rattle.subtag.specs.Utf8.{okAt, frontOf}
+use Rattle.subtag.specs.Replacements.{illFormedBy, replacements}
 use Rattle.subtag.specs.Subtag.{replacement, replacedBy, replaced, keep, dropNuls, subtagOf}
 
 -- n replacements, and then a text
@@ -45,3 +46,12 @@ inside = refl
 stays : subtagOf (0xC3 ∷ 0xA9 ∷ 0xE2 ∷ 0x82 ∷ 0xAC ∷ 0 ∷ 0 ∷ 0 ∷ []) ≡ 0xC3 ∷ 0xA9 ∷ 0xE2 ∷ 0x82 ∷ 0xAC ∷ []
 unfolding subtagOf dropNuls keep replaced replacedBy frontOf okAt
 stays = refl
+
+-- what is counted: EF BF BD that the bytes hold is well-formed and stays, E2 82 is one, three bytes 80 are three
+counted :
+    (replacements replacement ≡ 0)
+    × (subtagOf replacement ≡ replacement)
+    × (replacements (0xE2 ∷ 0x82 ∷ 0 ∷ 0x41 ∷ []) ≡ 1)
+    × (replacements (0x80 ∷ 0x80 ∷ 0x80 ∷ 0 ∷ []) ≡ 3)
+unfolding replacements illFormedBy subtagOf dropNuls keep replaced replacedBy frontOf okAt
+counted = (refl, refl, refl, refl)

@@ -1,6 +1,9 @@
+pub mod Copying
+pub mod Counts
 pub mod Examples
 pub mod Laws
 pub mod Long
+pub mod Low
 pub mod Nuls
 pub mod Room
 pub mod Rows

@@ -1,39 +1,35 @@
 -- How long a subtag's text is at most. Assumes nothing.
-use Prim.Native.Nat.{ℕ, zero, suc, _+_, _*_, _≤_, _<_}
+use Prim.Native.Nat.{ℕ, _+_, _*_, _≤_, _<_}
 use mathlib.Core.Path.{_≡_, refl, ap, _∙_}
-use mathlib.Core.Option.{some}
 use mathlib.Core.List.{List, [], _∷_}
 use native.Mathlib.Omega.{arith}
 use native.Mathlib.Decide.{ℕ-discrete}
 use native.Mathlib.Nat.{min-le-left}
-use lib.ListN.{length, drop, length-append, length-drop, length-take}
+use lib.ListN.{length, length-append, length-drop, length-take}
 use borrow.Author.Tests.{eq-eqb, ne-eqb}
 use Rattle.laws.proofs.Lists.{Each}
 use Rattle.subtag.specs.declared.utf8.Front.{Front}
 use Rattle.subtag.specs.Utf8.{frontOf}
 use Rattle.subtag.specs.Subtag.{pieceOf, frontSize, replaced, keep, dropNuls, subtagOf}
-use Rattle.subtag.proofs.Laws.{size-one, size-in, replaced-more, replaced-none}
-use Rattle.subtag.proofs.Rows.{row-at}
+use Rattle.subtag.proofs.Laws.{size-one, size-in, by-fronts, replaced-more, replaced-none}
+use Rattle.subtag.proofs.Low.{low-judged}
 use Rattle.subtag.proofs.Strip.{subtag-is}
 
 piece-long : (f : Front) (s : List ℕ) → 1 ≤ frontSize f → length (pieceOf f s) ≤ 3 * frontSize f
 piece-long (Front.WellFormed n) s h = omega (arith, length-take n s, min-le-left n (length s))
 piece-long (Front.IllFormed n) s h = omega arith
 
-long-by : (k : ℕ) (s : List ℕ) → length s ≤ k → length (replaced s) ≤ 3 * length s
-long-by zero [] h = omega (arith, ap length (replaced-none [] (omega arith)))
-long-by zero (b ∷ l) h = absurd (omega arith)
-long-by (suc k) [] h = omega (arith, ap length (replaced-none [] (omega arith)))
-long-by (suc k) (b ∷ l) h =
-    let s = b ∷ l in
-    let p : 0 < length s = omega arith in
+replaced-long : (s : List ℕ) → length (replaced s) ≤ 3 * length s
+replaced-long =
+    by-fronts (λ s. length (replaced s) ≤ 3 * length s)
+    (λ s h. omega (arith, ap length (replaced-none s h)))
+    (λ s h behind.
     let n = frontSize (frontOf s) in
     let d = length-drop n s in
-    let least = size-one s p in
-    let most = size-in s p in
-    let r = long-by k (drop n s) (omega arith) in
+    let least = size-one s h in
+    let most = size-in s h in
     let q = piece-long (frontOf s) s least in
-    rw (replaced-more s p) (simp length-append (omega arith))
+    rw (replaced-more s h) (simp length-append (omega arith)))
 
 pub keep-long : (b : ℕ) (t : List ℕ) → length (keep b t) ≤ 1 + length t
 unfolding keep
@@ -56,14 +52,10 @@ drop-long (b ∷ s) = omega (arith, keep-long b (dropNuls s), drop-long s)
 
 -- three bytes for each byte that is kept, and so for each byte
 pub subtag-kept : (s : List ℕ) → length (subtagOf s) ≤ 3 * length (dropNuls s)
-subtag-kept s = rw (subtag-is s) (long-by (length (dropNuls s)) (dropNuls s) (omega arith))
+subtag-kept s = rw (subtag-is s) (replaced-long (dropNuls s))
 
 pub subtag-long : (s : List ℕ) → length (subtagOf s) ≤ 3 * length s
 subtag-long s = omega (arith, subtag-kept s, drop-long s)
-
-low-judged : (b : ℕ) (s : List ℕ) → b < 128 → frontOf (b ∷ s) ≡ Front.WellFormed 1
-unfolding frontOf
-low-judged b s h = rw (row-at 0 128 (some []) tt b (omega arith) (omega arith))
 
 -- a byte below 80 stands for itself
 low-front : (b : ℕ) (s : List ℕ) → b < 128 → replaced (b ∷ s) ≡ b ∷ replaced s
@@ -105,7 +97,7 @@ low-one a [] h k =
       | yes e ↦ rw (eq-eqb a 0 e) (omega (arith, ap length (replaced-none [] refl)))
       | no e ↦ rw (ne-eqb a 0 e) (omega (arith, ap length (low-front a [] h), ap length (replaced-none [] refl)))
     ]
-low-one a (b ∷ t) h k = omega (arith, ap length (low-front a (b ∷ t) h), long-by (length (b ∷ t)) (b ∷ t) (omega arith))
+low-one a (b ∷ t) h k = omega (arith, ap length (low-front a (b ∷ t) h), replaced-long (b ∷ t))
 
 -- two bytes and two NULs, the first below 80
 pub low-then : (a b : ℕ) → a < 128 → length (subtagOf (a ∷ b ∷ 0 ∷ 0 ∷ [])) ≤ 4

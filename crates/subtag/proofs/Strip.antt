@@ -11,12 +11,12 @@ use borrow.Author.Tests.{eq-eqb, ne-eqb}
 use Rattle.subtag.specs.declared.utf8.Front.{Front}
 use Rattle.subtag.specs.Utf8.{frontOf}
 use Rattle.subtag.specs.Subtag.{pieceOf, frontSize, replaced, keep, dropNuls, subtagOf}
-use Rattle.subtag.proofs.Laws.{size-one, size-in, replaced-more, replaced-none}
+use Rattle.subtag.proofs.Laws.{by-fronts, replaced-more, replaced-none}
 use Rattle.subtag.proofs.Nuls.{none-left}
 use Rattle.subtag.proofs.Tail.{subtag-nul}
 
 -- what a NUL at the end does not change, all NULs at the end do not
-keep-same : (f : List ℕ → List ℕ) → ((l : List ℕ) → f (l ++ 0 ∷ []) ≡ f l) → (b : ℕ) (t : List ℕ) → f (b ∷ t) ≡ f (keep b t)
+keep-same : {A : Type 0} (f : List ℕ → A) → ((l : List ℕ) → f (l ++ 0 ∷ []) ≡ f l) → (b : ℕ) (t : List ℕ) → f (b ∷ t) ≡ f (keep b t)
 unfolding keep
 keep-same f h b [] =
     elim (ℕ-discrete b 0) [
@@ -25,7 +25,7 @@ keep-same f h b [] =
     ]
 keep-same f h b (c ∷ t) = refl
 
-strip : (f : List ℕ → List ℕ) → ((l : List ℕ) → f (l ++ 0 ∷ []) ≡ f l) → (s : List ℕ) → f s ≡ f (dropNuls s)
+pub strip : {A : Type 0} (f : List ℕ → A) → ((l : List ℕ) → f (l ++ 0 ∷ []) ≡ f l) → (s : List ℕ) → f s ≡ f (dropNuls s)
 unfolding dropNuls
 strip f h [] = refl
 strip f h (b ∷ s) = strip (λ l. f (b ∷ l)) (λ l. h (b ∷ l)) s ∙ keep-same f h b (dropNuls s)
@@ -64,23 +64,20 @@ unfolding Ends lastOr
 ends-piece (Front.WellFormed n) s h e = rw (take-all n s h) e
 ends-piece (Front.IllFormed n) s h e = λ z. omega arith
 
-ends-by : (k : ℕ) (s : List ℕ) → length s ≤ k → Ends s → Ends (replaced s)
+ends-stay : (s : List ℕ) → Ends s → Ends (replaced s)
 unfolding Ends lastOr
-ends-by zero [] h e = absurd (e refl)
-ends-by zero (b ∷ l) h e = absurd (omega arith)
-ends-by (suc k) [] h e = absurd (e refl)
-ends-by (suc k) (b ∷ l) h e =
-    let s = b ∷ l in
-    let p : 0 < length s = omega arith in
+ends-stay =
+    by-fronts (λ s. Ends s → Ends (replaced s)) empty
+    (λ s p behind e.
     let n = frontSize (frontOf s) in
-    let d = length-drop n s in
-    let least = size-one s p in
-    let most = size-in s p in
     rw (replaced-more s p)
     (elim (decLt n (length s)) [
-      | yes m ↦ ends-append (pieceOf (frontOf s) s) (replaced (drop n s)) (ends-by k (drop n s) (omega arith) (rw (last-drop 0 0 n s m) e))
-      | no m ↦ rw (replaced-none (drop n s) (omega arith), append-nil) (ends-piece (frontOf s) s (omega arith) e)
-    ])
+      | yes m ↦ ends-append (pieceOf (frontOf s) s) (replaced (drop n s)) (behind (rw (last-drop 0 0 n s m) e))
+      | no m ↦ rw (replaced-none (drop n s) (omega (arith, length-drop n s)), append-nil) (ends-piece (frontOf s) s (omega arith) e)
+    ])) where
+      empty : (s : List ℕ) → length s ≡ 0 → Ends s → Ends (replaced s)
+      empty [] h e = absurd (e refl)
+      empty (b ∷ s) h e = absurd (omega arith)
 
 ends-same : (l : List ℕ) → Ends l → dropNuls l ≡ l
 unfolding Ends lastOr dropNuls keep
@@ -106,7 +103,7 @@ drop-ends (b ∷ s) = keep-ends b (dropNuls s) (drop-ends s)
 clean : (l : List ℕ) → (l ≡ []) ⊎ Ends l → subtagOf l ≡ replaced l
 unfolding subtagOf
 clean l (inl e) = rw (e, replaced-none [] refl) none-left
-clean l (inr h) = ends-same (replaced l) (ends-by (length l) l (omega arith) h)
+clean l (inr h) = ends-same (replaced l) (ends-stay l h)
 
 pub subtag-is : (s : List ℕ) → subtagOf s ≡ replaced (dropNuls s)
 subtag-is s = strip subtagOf subtag-nul s ∙ clean (dropNuls s) (drop-ends s)

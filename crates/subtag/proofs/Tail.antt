@@ -7,7 +7,7 @@ use mathlib.Core.Option.{Option, none, some}
 use native.Mathlib.Omega.{arith}
 use native.Mathlib.Decide.{decLt}
 use lib.Dec.{lit≤}
-use lib.ListN.{length, getD, drop, length-append, length-drop, List·getD-append}
+use lib.ListN.{length, getD, drop, length-append, List·getD-append}
 use lib.Seq.{take-append-le, drop-append-le}
 use borrow.Author.Tests.{lt-ltb, le-ltb, le-leb, lt-leb}
 use Rattle.laws.proofs.Choice.{chosen}
@@ -15,7 +15,7 @@ use Rattle.laws.proofs.Lists.{Each}
 use Rattle.subtag.specs.declared.utf8.Front.{Front}
 use Rattle.subtag.specs.Utf8.{table, rowOf, within, okAt, matched, judge, frontOf}
 use Rattle.subtag.specs.Subtag.{pieceOf, frontSize, replaced, replacedBy, dropNuls, subtagOf}
-use Rattle.subtag.proofs.Laws.{size-one, size-in, replaced-more}
+use Rattle.subtag.proofs.Laws.{size-in, by-fronts, replaced-more}
 use Rattle.subtag.proofs.Nuls.{nul-last}
 
 padded : (l : List ℕ) (i : ℕ) → length l ≤ i → getD (l ++ 0 ∷ []) i 0 ≡ 0
@@ -88,31 +88,28 @@ piece-nul : (f : Front) (l : List ℕ) → frontSize f ≤ length l → pieceOf 
 piece-nul (Front.WellFormed n) l h = take-append-le n l (0 ∷ []) h
 piece-nul (Front.IllFormed n) l h = refl
 
-alone : replaced (0 ∷ []) ≡ replaced [] ++ 0 ∷ []
-unfolding replaced replacedBy frontOf okAt
-alone = refl
+-- so the front of bytes with a NUL more is the front of the bytes, and the NUL stands behind the rest
+pub rest-nul : (l : List ℕ) → 0 < length l
+    → (frontOf (l ++ 0 ∷ []) ≡ frontOf l) × (drop (frontSize (frontOf (l ++ 0 ∷ []))) (l ++ 0 ∷ []) ≡ drop (frontSize (frontOf l)) l ++ 0 ∷ [])
+rest-nul l h = (front-nul l h, rw (front-nul l h) (drop-append-le (frontSize (frontOf l)) l (0 ∷ []) (size-in l h)))
 
-nul-by : (k : ℕ) (l : List ℕ) → length l ≤ k → replaced (l ++ 0 ∷ []) ≡ replaced l ++ 0 ∷ []
-nul-by zero [] h = alone
-nul-by zero (b ∷ l) h = absurd (omega arith)
-nul-by (suc k) [] h = alone
-nul-by (suc k) (b ∷ l) h =
-    let s = b ∷ l in
-    let p : 0 < length s = omega arith in
-    let n = frontSize (frontOf s) in
-    let least = size-one s p in
-    let most = size-in s p in
-    let e = length-drop n s in
-    let q : 0 < length (s ++ 0 ∷ []) = omega (arith, length-append s (0 ∷ [])) in
-    replaced-more (s ++ 0 ∷ []) q
-    ∙ ap (λ (f : Front). pieceOf f (s ++ 0 ∷ []) ++ replaced (drop (frontSize f) (s ++ 0 ∷ []))) (front-nul s p)
-    ∙ ap (λ (x : List ℕ). x ++ replaced (drop n (s ++ 0 ∷ []))) (piece-nul (frontOf s) s most)
-    ∙ ap (λ (x : List ℕ). pieceOf (frontOf s) s ++ replaced x) (drop-append-le n s (0 ∷ []) most)
-    ∙ ap (λ (x : List ℕ). pieceOf (frontOf s) s ++ x) (nul-by k (drop n s) (omega arith))
-    ∙ sym (append-assoc (pieceOf (frontOf s) s) (replaced (drop n s)) (0 ∷ []))
-    ∙ ap (λ (x : List ℕ). x ++ 0 ∷ []) (sym (replaced-more s p))
+alone : (l : List ℕ) → length l ≡ 0 → replaced (l ++ 0 ∷ []) ≡ replaced l ++ 0 ∷ []
+unfolding replaced replacedBy frontOf okAt
+alone [] h = refl
+alone (b ∷ l) h = absurd (omega arith)
+
+nul-stays : (l : List ℕ) → replaced (l ++ 0 ∷ []) ≡ replaced l ++ 0 ∷ []
+nul-stays =
+    by-fronts (λ l. replaced (l ++ 0 ∷ []) ≡ replaced l ++ 0 ∷ []) alone
+    (λ l h behind.
+    let e = rest-nul l h in
+    let piece = pieceOf (frontOf l) l in
+    let rest = drop (frontSize (frontOf l)) l in
+    replaced-more (l ++ 0 ∷ []) (omega (arith, length-append l (0 ∷ [])))
+    ∙ rw (e .1, e .0, piece-nul (frontOf l) l (size-in l h), behind) (sym (append-assoc piece (replaced rest) (0 ∷ [])))
+    ∙ ap (λ (x : List ℕ). x ++ 0 ∷ []) (sym (replaced-more l h)))
 
 -- a NUL at the end of a subtag changes nothing
 pub subtag-nul : (l : List ℕ) → subtagOf (l ++ 0 ∷ []) ≡ subtagOf l
 unfolding subtagOf
-subtag-nul l = ap dropNuls (nul-by (length l) l (omega arith)) ∙ nul-last (replaced l)
+subtag-nul l = ap dropNuls (nul-stays l) ∙ nul-last (replaced l)

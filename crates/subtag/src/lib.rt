@@ -1,55 +1,87 @@
-// Subtags: bytes that should be UTF-8, copied with their ill-formed parts replaced and trailing NULs dropped.
+// Subtags: bytes that should be UTF-8, copied with their ill-formed parts replaced and trailing NULs dropped. The copy counts what it
+// replaces.
 mod utf8;
 
+use answers::Counted;
 use answers::Refusal;
 use answers::Written;
 use buffer::put;
+use buffer::put_byte;
 use utf8::Front;
 use utf8::first;
 ghost use mathlib.Core.Path.{_≡_};
 ghost use Prim.Native.Nat.{_≤_, _<_};
 ghost use lib.Dec.{leb};
 ghost use lib.ListN.{length, take};
-ghost use Rattle.buffer.specs.Put.{Put};
-ghost use Rattle.buffer.specs.Written.{outcome, written};
+ghost use Rattle.buffer.specs.Counted.{countedOutcome, counting};
+ghost use Rattle.buffer.specs.Written.{written};
+ghost use Rattle.subtag.specs.Copies.{Copies};
+ghost use Rattle.subtag.specs.Replacements.{replacements};
 ghost use Rattle.subtag.specs.Subtag.{replaced, dropNuls, subtagOf};
 ghost use Rattle.subtag.specs.Steps.{Fronted, Measured};
 
-// A writer's next offset, and how many bytes of its source it has taken.
+// Where a copier stopped, and how many maximal ill-formed subparts its source has: it replaced each that it had room for.
+pub struct Copied {
+    pub at: usize,
+    pub replacements: usize,
+}
+
+// A writer's next offset, how many bytes of its source it has taken, and how many maximal subparts it has replaced.
 struct Moved {
     at: usize,
+    taken: usize,
+    replacements: usize,
+}
+
+// How many bytes a front becomes, and how many it has.
+struct Sizes {
+    becomes: usize,
     taken: usize,
 }
 
 // Puts what the front of src becomes.
 fn put_front(src: &[u8], at: usize, out: &mut [u8]) -> Moved
     requires { ⌜ 0 < length (now src) ⌝ }
-    ensures { λ r. ⌜ Fronted (now (out .entry)) at (now (src .entry)) (now (out .exit)) (r .at) (r .taken) ⌝ }
+    ensures { λ r. ⌜ Fronted (now (out .entry)) at (now (src .entry)) (now (out .exit)) (r .at) (r .taken) (r .replacements) ⌝ }
 {
     match first(src) {
         Front::WellFormed(n) => Moved {
             at: put(&src[..n], at, out),
             taken: n,
+            replacements: 0,
         },
         Front::IllFormed(n) => Moved {
             at: put(b"\xef\xbf\xbd", at, out),
             taken: n,
+            replacements: 1,
         },
     }
 }
 
-// Puts src with each maximal ill-formed subpart replaced by EF BF BD.
-fn put_replaced(src: &[u8], at: usize, out: &mut [u8]) -> usize
-    ensures { λ r. ⌜ Put (now (out .entry)) at (replaced (now (src .entry))) (now (out .exit)) r ⌝ }
+// Puts src with each maximal ill-formed subpart replaced by EF BF BD. A byte below 0x80 is a front by itself: most are, so it is looked
+// at first.
+fn put_replaced(src: &[u8], at: usize, out: &mut [u8]) -> Copied
+    ensures { λ r. ⌜ Copies (now (out .entry)) at (replaced (now (src .entry))) (replacements (now (src .entry))) (now (out .exit)) r ⌝ }
 {
     let mut o = at;
     let mut i = 0;
+    let mut replacements = 0;
     while i < src.len() {
-        let moved = put_front(&src[i..], o, out);
-        o = moved.at;
-        i += moved.taken;
+        let b = src[i];
+        if b < 0x80 {
+            o = put_byte(b, o, out);
+            i += 1;
+        } else {
+            let moved = put_front(&src[i..], o, out);
+            o = moved.at;
+            i += moved.taken;
+            replacements += moved.replacements;
+        }
     }
-    o
+    Copied {
+        at: o,
+        replacements,
+    }
 }
 
 // How long s is without the NULs at its end.
@@ -67,21 +99,27 @@ fn trim(s: &[u8]) -> usize
 }
 
 // Puts a subtag. A NUL stands by itself, so those at the end may go first. Machinery: it refuses nothing.
-pub fn put_subtag(src: &[u8], at: usize, out: &mut [u8]) -> usize
-    ensures { λ r. ⌜ Put (now (out .entry)) at (subtagOf (now (src .entry))) (now (out .exit)) r ⌝ }
+pub fn put_subtag(src: &[u8], at: usize, out: &mut [u8]) -> Copied
+    ensures { λ r. ⌜ Copies (now (out .entry)) at (subtagOf (now (src .entry))) (replacements (now (src .entry))) (now (out .exit)) r ⌝ }
 {
     let n = trim(src);
     put_replaced(&src[..n], at, out)
 }
 
-// How many bytes the front of src becomes, and how many it has.
-fn measure(src: &[u8]) -> Moved
+// The sizes of the front of src.
+fn measure(src: &[u8]) -> Sizes
     requires { ⌜ 0 < length (now src) ⌝ }
-    ensures { λ r. ⌜ Measured (now (src .entry)) (r .at) (r .taken) ⌝ }
+    ensures { λ r. ⌜ Measured (now (src .entry)) (r .becomes) (r .taken) ⌝ }
 {
     match first(src) {
-        Front::WellFormed(n) => Moved { at: n, taken: n },
-        Front::IllFormed(n) => Moved { at: 3, taken: n },
+        Front::WellFormed(n) => Sizes {
+            becomes: n,
+            taken: n,
+        },
+        Front::IllFormed(n) => Sizes {
+            becomes: 3,
+            taken: n,
+        },
     }
 }
 
@@ -93,24 +131,30 @@ fn fits(src: &[u8], room: usize) -> bool
     let mut i = 0;
     while i < src.len() {
         let front = measure(&src[i..]);
-        if left < front.at {
+        if left < front.becomes {
             return false;
         }
-        left -= front.at;
+        left -= front.becomes;
         i += front.taken;
     }
     true
 }
 
 // Writes a subtag to the front of out; where out is shorter, it is left as it is.
-pub fn write_subtag(src: &[u8], out: &mut [u8]) -> Written
-    ensures { λ r. ⌜ outcome r (now (out .exit)) ≡ written (subtagOf (now (src .entry))) (now (out .entry)) ⌝ }
+pub fn write_subtag(src: &[u8], out: &mut [u8]) -> Counted
+    ensures { λ r. ⌜ countedOutcome r (now (out .exit)) ≡ counting (replacements (now (src .entry))) (written (subtagOf (now (src .entry))) (now (out .entry))) ⌝ }
 {
     let n = trim(src);
     if fits(&src[..n], out.len()) {
-        let end = put_replaced(&src[..n], 0, out);
-        Written::Wrote(end)
+        let copied = put_replaced(&src[..n], 0, out);
+        Counted {
+            answer: Written::Wrote(copied.at),
+            replacements: copied.replacements,
+        }
     } else {
-        Written::Refused(Refusal::ShortBuffer)
+        Counted {
+            answer: Written::Refused(Refusal::ShortBuffer),
+            replacements: 0,
+        }
     }
 }

@@ -6,6 +6,6 @@ use mathlib.Core.List.{List}
 use Rattle.buffer.specs.Put.{Put}
 use Rattle.buffer.proofs.OneOutcome.{one-put}
 
--- of `line`, `put_two` and `put_four`, which put a definition's bytes w: where they stopped and what they left
+-- of `line`, `put_two`, `put_four` and `put_eight`, which put a definition's bytes w: where they stopped and what they left
 pub one-putting : {old : List ℕ} {at : ℕ} {w : List ℕ} {x y : List ℕ} {r s : ℕ} → Put old at w x r → Put old at w y s → (r ≡ s) × (x ≡ y)
 one-putting p q = one-put p q

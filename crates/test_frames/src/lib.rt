@@ -5,6 +5,7 @@ mod numbers;
 pub use hex::line;
 pub use numbers::eight;
 pub use numbers::four;
+pub use numbers::put_eight;
 pub use numbers::put_four;
 pub use numbers::put_two;
 pub use numbers::two;

@@ -60,3 +60,11 @@ pub fn put_four(n: u32, at: usize, out: &mut [u8]) -> usize
     let at = buffer::put_byte((n / 256 / 256 % 256) as u8, at, out);
     buffer::put_byte((n / 256 / 256 / 256 % 256) as u8, at, out)
 }
+
+// Puts a number's eight bytes.
+pub fn put_eight(n: usize, at: usize, out: &mut [u8]) -> usize
+    ensures { λ r. ⌜ Put (now (out .entry)) at (lowBytes 8 n) (now (out .exit)) r ⌝ }
+{
+    let at = put_four((n % 4294967296) as u32, at, out);
+    put_four((n / 4294967296) as u32, at, out)
+}

@@ -41,7 +41,8 @@ pub extern "C" fn probe_text(bytes: &[u8], out: &mut [u8]) -> usize
     ensures { λ r. ⌜ r ≡ plainText (now (bytes .entry)) (now (out .entry)) .tells .amount ⌝ }
     ensures { λ _. ⌜ now (out .exit) ≡ plainText (now (bytes .entry)) (now (out .entry)) .leaves ⌝ }
 {
-    let answer = plain_text(bytes, out);
+    let counted = plain_text(bytes, out);
+    let answer = counted.answer;
     let told = answer.told();
     told.amount
 }

@@ -1,9 +1,8 @@
 // What the port answers to each kind of question on an offset of a run, by its tag. A payload is the age in four bytes, the offset
 // in eight, how many bytes are lent in four, the lent bytes, and the run.
-use crate::records::put_amount;
 use crate::records::put_fields;
+use answers::Counted;
 use answers::Told;
-use answers::Written;
 use reader::RunReader;
 use record::Age;
 use runs::Stepped;
@@ -11,8 +10,8 @@ ghost use mathlib.Core.Path.{_≡_};
 ghost use Rattle.record.specs.Ages.{defaultAge};
 ghost use Rattle.runs.specs.Runs.{stepOf, stepOutcome};
 
-// Where the lent bytes stand in an answer, behind what the call tells.
-const LENT: usize = 12;
+// Where the lent bytes stand in an answer, behind what the call tells and the replacements of its text.
+const LENT: usize = 20;
 
 // Answers a question at the front of `out`, and gives the answer's length. A tag that is none of these has no answer.
 pub(crate) fn answer(tag: u8, payload: &[u8], out: &mut [u8]) -> usize {
@@ -52,7 +51,7 @@ fn sought(bytes: &[u8], offset: usize) -> Stepped
 fn put_stepped(stepped: Stepped, out: &mut [u8]) -> usize {
     let step = stepped.answer;
     let at = put_told(step.told(), out);
-    let at = put_amount(stepped.next, at, out);
+    let at = test_frames::put_eight(stepped.next, at, out);
     let record = stepped.record;
     put_fields(record, at, out)
 }
@@ -64,28 +63,33 @@ fn held(bytes: &[u8], offset: usize, age: Age, out: &mut [u8]) -> usize {
     put_told(held.told(), out)
 }
 
-// What a call that writes tells, and the lent bytes as it leaves them.
+// What a call that writes tells, how many replacements its text has, and the lent bytes as it leaves them.
 fn wrote(tag: u8, bytes: &[u8], offset: usize, age: Age, lent: &[u8], out: &mut [u8]) -> usize {
     let end = buffer::put(lent, LENT, out);
     let n = test_frames::front(end, out);
     if n < LENT {
         return 0;
     }
-    let answer = written(tag, bytes, offset, age, &mut out[LENT..n]);
-    put_told(answer.told(), out);
+    let counted = written(tag, bytes, offset, age, &mut out[LENT..n]);
+    let answer = counted.answer;
+    let at = put_told(answer.told(), out);
+    test_frames::put_eight(counted.replacements, at, out);
     n
 }
 
-// Writes the text or the marks of the record at an offset.
-fn written(tag: u8, bytes: &[u8], offset: usize, age: Age, out: &mut [u8]) -> Written {
+// Writes the text or the marks of the record at an offset; marks have no replacements.
+fn written(tag: u8, bytes: &[u8], offset: usize, age: Age, out: &mut [u8]) -> Counted {
     match tag {
         41 => runs::text_at(bytes, offset, age, out),
-        _ => runs::marks_at(bytes, offset, age, out),
+        _ => {
+            let answer = runs::marks_at(bytes, offset, age, out);
+            answer.counted(0)
+        }
     }
 }
 
 // Puts what a call tells at the front: the number in four bytes, the amount in eight.
 fn put_told(told: Told, out: &mut [u8]) -> usize {
     let at = test_frames::put_four(told.number, 0, out);
-    put_amount(told.amount, at, out)
+    test_frames::put_eight(told.amount, at, out)
 }

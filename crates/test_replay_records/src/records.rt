@@ -33,7 +33,7 @@ fn parse(bytes: &[u8], out: &mut [u8]) -> usize {
     match answer {
         Taken::Took(amount) => {
             let at = buffer::put_byte(0, 0, out);
-            let at = put_amount(amount, at, out);
+            let at = test_frames::put_eight(amount, at, out);
             let record = parsed.record;
             put_fields(record, at, out)
         }
@@ -144,12 +144,6 @@ fn order_number(ordering: Ordering) -> u8 {
         Ordering::Equal => 1,
         Ordering::Greater => 2,
     }
-}
-
-// Puts an amount in eight bytes.
-pub(crate) fn put_amount(amount: usize, at: usize, out: &mut [u8]) -> usize {
-    let at = test_frames::put_four((amount % 4294967296) as u32, at, out);
-    test_frames::put_four((amount / 4294967296) as u32, at, out)
 }
 
 // Puts the fifteen fields in their order.

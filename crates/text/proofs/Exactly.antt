@@ -8,7 +8,7 @@ use lib.ListN.{length}
 use Rattle.answers.specs.declared.Refusal.{Refusal}
 use Rattle.answers.specs.Tells.{refusal}
 use Rattle.answers.specs.Demand1.{NoneOf}
-use Rattle.answers.proofs.Exactly.{one-more, refusal-exactly}
+use Rattle.answers.proofs.Exactly.{none-left, one-more, told-exactly, refusal-exactly}
 use Rattle.buffer.specs.Demand1.{shorterThan}
 use Rattle.buffer.proofs.Exactly.{written-row, refuses-by}
 use Rattle.reading.specs.Reading.{plain, aged}
@@ -18,7 +18,7 @@ use Rattle.marking.specs.Marks.{heldBack}
 use Rattle.marking.specs.Demand1.{isHeldBack}
 use Rattle.places.specs.Places.{textOf}
 use Rattle.text.specs.Text.{agedText}
-use Rattle.text.specs.Demand1.{PlainTextRefuses, AgedTextRefuses}
+use Rattle.text.specs.Demand1.{PlainTextRefuses, AgedTextRefuses, ReplacementsRefuse}
 
 -- `plain_text`: 1, 2, 5
 pub plain-exactly : (s old : List ℕ) → PlainTextRefuses s old
@@ -27,6 +27,10 @@ plain-exactly s old = refuses-by refl (whole-row s (written-row (textOf (plain s
 -- `aged_text`: 3, 1, 2, 4, 5
 pub aged-exactly : (a : ℕ) (s old : List ℕ) → AgedTextRefuses a s old
 aged-exactly a s old = refuses-by refl (age-row a (whole-row s (one-more (isHeldBack a s) (written-row (textOf (aged a s)) old))))
+
+-- `replacements`: 3, 1, 2, 4
+pub replacements-exactly : (a : ℕ) (s : List ℕ) → ReplacementsRefuse a s
+replacements-exactly a s = told-exactly (age-row a (whole-row s (one-more (isHeldBack a s) none-left)))
 
 -- so 4 is given exactly when the record is held back at one of the twelve ages, and whole
 pub four-exactly : (a : ℕ) (s old : List ℕ)

@@ -5,3 +5,4 @@ pub mod Ranges
 pub mod OneOutcome
 pub mod Same
 pub mod Exactly
+pub mod Holding

@@ -1,4 +1,4 @@
--- What a reading gives of some bytes is in the ranges of its types, so that no text of it is longer than 344. Assumes nothing.
+-- What a reading gives of some bytes is in the ranges of its types, so that no text of it is longer than 344 or has more than 24 replacements. Assumes nothing.
 use Prim.Native.Nat.{ℕ, zero, suc, _^_, _≤_, _<_}
 use mathlib.Core.Path.{_≡_, refl}
 use mathlib.Core.Bool.{Bool}
@@ -10,6 +10,8 @@ use lib.Seq.{drop-cons}
 use Rattle.laws.proofs.Choice.{chosen}
 use Rattle.record.specs.Table.{Bytes, part, le, startOf, widthOf}
 use Rattle.reading.specs.Reading.{fieldBy, recordBy, plain, aged}
+use Rattle.locale.specs.Subtags.{textReplacements}
+use Rattle.locale.proofs.Counts.{few-by, text-most}
 use Rattle.places.specs.Places.{textOf}
 use Rattle.text.proofs.Long.{Ranged, ranged-long}
 
@@ -61,6 +63,10 @@ module _ (p : ℕ → Bool) (s : List ℕ) (h : Bytes s) where
 pub read-long : (p : ℕ → Bool) (s : List ℕ) → Bytes s → length (textOf (recordBy p s)) ≤ 344
 read-long p s h = ranged-long _ (ranged p s h)
 
+-- nor has one more replacements
+pub read-most : (p : ℕ → Bool) (s : List ℕ) → Bytes s → textReplacements (recordBy p s) ≤ 24
+read-most p s h = let r = ranged p s h in text-most _ (few-by _ (r .locale) (r .script) (r .variant) (r .numbering))
+
 -- no text of what the plain reading gives is longer, nor of what a reader of an age gives
 pub plain-long : (s : List ℕ) → Bytes s → length (textOf (plain s)) ≤ 344
 unfolding plain
@@ -69,3 +75,11 @@ plain-long s h = read-long _ s h
 pub aged-long : (a : ℕ) (s : List ℕ) → Bytes s → length (textOf (aged a s)) ≤ 344
 unfolding aged
 aged-long a s h = read-long _ s h
+
+pub plain-most : (s : List ℕ) → Bytes s → textReplacements (plain s) ≤ 24
+unfolding plain
+plain-most s h = read-most _ s h
+
+pub aged-most : (a : ℕ) (s : List ℕ) → Bytes s → textReplacements (aged a s) ≤ 24
+unfolding aged
+aged-most a s h = read-most _ s h

@@ -2,11 +2,13 @@
 use Prim.Native.Nat.{ℕ}
 use mathlib.Core.List.{List, [], _∷_}
 use lib.ListN.{length}
+use Rattle.answers.specs.Demand1.{Exactly}
 use Rattle.buffer.specs.Demand1.{shorterThan, Refuses}
 use Rattle.reading.specs.Reading.{plain, aged}
 use Rattle.reading.specs.Demand1.{fewerThan16, fewerThanSize, notAnAge}
 use Rattle.marking.specs.Demand1.{isHeldBack}
 use Rattle.places.specs.Places.{textOf}
+use Rattle.text.specs.Counted.{replacementsOf}
 use Rattle.text.specs.Text.{plainText, agedText}
 
 -- `plain_text`: 1, 2, 5
@@ -17,3 +19,7 @@ PlainTextRefuses s old = Refuses (fewerThan16 s ∷ fewerThanSize s ∷ shorterT
 abbrev pub AgedTextRefuses : ℕ → List ℕ → List ℕ → Type 0
 AgedTextRefuses a s old =
     Refuses (notAnAge a ∷ fewerThan16 s ∷ fewerThanSize s ∷ isHeldBack a s ∷ shorterThan (length (textOf (aged a s))) old ∷ []) old (agedText a s old)
+
+-- `replacements`: 3, 1, 2, 4
+abbrev pub ReplacementsRefuse : ℕ → List ℕ → Type 0
+ReplacementsRefuse a s = Exactly (notAnAge a ∷ fewerThan16 s ∷ fewerThanSize s ∷ isHeldBack a s ∷ []) (replacementsOf a s)

@@ -1,8 +1,13 @@
 // The text of a record: of a parsed one, of bytes, and of bytes for a reader of some age.
+use answers::Counted;
 use answers::Refusal;
 use answers::Taken;
+use answers::Told;
 use answers::Written;
 use buffer::write;
+use locale::replacements_in;
+use marking::Held;
+use marking::held_back;
 use marking::late_bytes;
 use places_all::put_text;
 use reading::parse;
@@ -11,32 +16,68 @@ use reading::take;
 use record::Age;
 use record::ResTableConfig;
 ghost use mathlib.Core.Path.{_≡_};
-ghost use Rattle.buffer.specs.Written.{outcome, written};
+ghost use Rattle.answers.specs.Counted.{countedWith};
+ghost use Rattle.answers.specs.declared.Written.{Written};
+ghost use Rattle.buffer.specs.Counted.{countedOutcome, counting};
+ghost use Rattle.buffer.specs.Written.{written};
+ghost use Rattle.locale.specs.Subtags.{textReplacements};
 ghost use Rattle.places.specs.Places.{textOf};
-ghost use Rattle.text.specs.Text.{plainText, agedText};
+ghost use Rattle.text.specs.Counted.{countedPlain, countedAged, replacementsOf, replacedTells};
 
 // No text of a record is longer, and one is as long.
 pub const LONGEST_TEXT: usize = 344;
 
+// The answer how many replacements a text has.
+pub enum Replaced {
+    Count(usize),
+    Refused(Refusal),
+}
+
+impl Replaced {
+    // What the answer tells in 01's numbers.
+    pub fn told(self) -> Told
+        ensures { λ r. ⌜ r ≡ replacedTells self ⌝ }
+    {
+        match self {
+            Self::Count(amount) => Told { number: 0, amount },
+            Self::Refused(why) => why.told(),
+        }
+    }
+}
+
 // Writes the text of a record, as 000's `as_string` has it. Where out has room for any text it is put there at once.
-pub fn as_string(r: ResTableConfig, out: &mut [u8]) -> Written
-    ensures { λ n. ⌜ outcome n (now (out .exit)) ≡ written (textOf r) (now (out .entry)) ⌝ }
+pub fn as_string(r: ResTableConfig, out: &mut [u8]) -> Counted
+    ensures { λ n. ⌜ countedOutcome n (now (out .exit)) ≡ counting (textReplacements r) (written (textOf r) (now (out .entry))) ⌝ }
 {
     if LONGEST_TEXT <= out.len() {
-        let n = put_text(r, out);
-        return Written::Wrote(n);
+        let copied = put_text(r, out);
+        return Counted {
+            answer: Written::Wrote(copied.at),
+            replacements: copied.replacements,
+        };
     }
     let mut own = [0u8; LONGEST_TEXT];
-    let n = put_text(r, &mut own);
-    write(&own[..n], out)
+    let copied = put_text(r, &mut own);
+    let answer = write(&own[..copied.at], out);
+    answer.counted(copied.replacements)
+}
+
+// What a refused call answers.
+fn refused(why: Refusal) -> Counted
+    ensures { λ r. ⌜ r ≡ countedWith 0 (Written.Refused why) ⌝ }
+{
+    Counted {
+        answer: Written::Refused(why),
+        replacements: 0,
+    }
 }
 
 // Writes the plain text of the record at the front of bytes.
-pub fn plain_text(bytes: &[u8], out: &mut [u8]) -> Written
-    ensures { λ r. ⌜ outcome r (now (out .exit)) ≡ plainText (now (bytes .entry)) (now (out .entry)) ⌝ }
+pub fn plain_text(bytes: &[u8], out: &mut [u8]) -> Counted
+    ensures { λ r. ⌜ countedOutcome r (now (out .exit)) ≡ countedPlain (now (bytes .entry)) (now (out .entry)) ⌝ }
 {
     match take(bytes) {
-        Taken::Refused(refusal) => Written::Refused(refusal),
+        Taken::Refused(refusal) => refused(refusal),
         Taken::Took(_) => {
             let parsed = parse(bytes);
             let record = parsed.record;
@@ -46,21 +87,36 @@ pub fn plain_text(bytes: &[u8], out: &mut [u8]) -> Written
 }
 
 // Writes the text of the record at the front of bytes for a reader of an age; a record that is held back at it is refused.
-pub fn aged_text(bytes: &[u8], age: Age, out: &mut [u8]) -> Written
-    ensures { λ r. ⌜ outcome r (now (out .exit)) ≡ agedText (age .0) (now (bytes .entry)) (now (out .entry)) ⌝ }
+pub fn aged_text(bytes: &[u8], age: Age, out: &mut [u8]) -> Counted
+    ensures { λ r. ⌜ countedOutcome r (now (out .exit)) ≡ countedAged (age .0) (now (bytes .entry)) (now (out .entry)) ⌝ }
 {
     if !age.is_age() {
-        return Written::Refused(Refusal::NotAnAge);
+        return refused(Refusal::NotAnAge);
     }
     match take(bytes) {
-        Taken::Refused(why) => Written::Refused(why),
+        Taken::Refused(why) => refused(why),
         Taken::Took(taken) => {
             if late_bytes(bytes, taken, age.0 as usize) {
-                return Written::Refused(Refusal::HeldBack);
+                return refused(Refusal::HeldBack);
             }
             let parsed = parse_aged(bytes, age);
             let record = parsed.record;
             as_string(record, out)
+        }
+    }
+}
+
+// How many replacements the text of the record at the front of bytes has for a reader of an age.
+pub fn replacements(bytes: &[u8], age: Age) -> Replaced
+    ensures { λ r. ⌜ replacedTells r ≡ replacementsOf (age .0) (now (bytes .entry)) ⌝ }
+{
+    match held_back(bytes, age) {
+        Held::Refused(why) => Replaced::Refused(why),
+        Held::Yes => Replaced::Refused(Refusal::HeldBack),
+        Held::No => {
+            let shown = parse_aged(bytes, age);
+            let record = shown.record;
+            Replaced::Count(replacements_in(record))
         }
     }
 }

@@ -1,5 +1,5 @@
 -- The subtag stands behind its sign, where it is there. Assumes nothing.
-use Rattle.buffer.proofs.Putting.{put-put, put-nil}
+use Rattle.locale.proofs.Behind.{behind-there, behind-none}
 use borrow.Author.Needs.{needs}
 use Rattle.locale.proofs.put_behind.Statement.{statement}
 use Rattle.locale.proofs.put_behind.Tie as tie
@@ -14,5 +14,8 @@ put-behind-spec =
     let out = put-subtag .before .before .before in
     let put = out .before in
     let if1 = put .before .before in
-    rw (if1 .if1 .taken) (put-put (put .put .ensures) (put-subtag .put-subtag .ensures)))
-    (λ c. rw (c .if1 .left) put-nil))
+    behind-there _ _ _ (if1 .if1 .taken) (put .put .ensures) (put-subtag .put-subtag .ensures))
+    (λ c.
+    let shared-slice-known = c .before .before .before in
+    let start = shared-slice-known .before in
+    behind-none (start .args .sign .now) _ (start .args .src .now) (c .if1 .left)))

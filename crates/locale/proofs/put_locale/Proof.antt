@@ -1,4 +1,5 @@
 -- The format that is called for. Assumes nothing.
+use mathlib.Core.Path.{sym, _∙_}
 use Rattle.locale.specs.Locale.{localeWords}
 use borrow.Author.Needs.{needs}
 use Rattle.locale.proofs.put_locale.Statement.{statement}
@@ -24,4 +25,6 @@ pub put-locale-spec : {M : Type 1} → statement M
 put-locale-spec =
     tie.close
     (tie.spec
-    (λ c κs. tt) (λ c κs. tt) (λ c κs. tt) (λ c. search needs) returns (λ c. search needs) returns-2)
+    (λ c κs. tt) (λ c κs. tt)
+    (λ c κs. let if1 = c .before in let is-new = if1 .before in sym (is-new .is-new .ensures) ∙ if1 .if1 .left)
+    (λ c. search needs) returns (λ c. search needs) returns-2)

@@ -1,34 +1,63 @@
 -- The parts of the new format in a row. Assumes nothing.
-use Rattle.buffer.proofs.Putting.{put-put, put-same}
+use native.Mathlib.Omega.{arith}
+use Rattle.subtag.proofs.Copying.{copy-copy}
 use Rattle.locale.specs.Locale.{newWords}
+use Rattle.locale.proofs.Counts.{few, parts-new}
 use borrow.Author.Needs.{needs}
 use Rattle.locale.proofs.put_new.Statement.{statement}
 use Rattle.locale.proofs.put_new.Tie as tie
 
+add-variant : tie.Need-add-t21
+add-variant c =
+    let out = c .before .before .before in
+    let put-begun-arg3 = out .before .before .before in
+    let variant = put-begun-arg3 .before .before .before in
+    let put-begun-arg = variant .before .before in
+    let put-tag = put-begun-arg .before .before .before in
+    let variant-at = put-tag .before .before .before in
+    let start = variant-at .before .before in
+    let f = few (start .args .r) _ (start .good .0) in
+    omega (arith, put-tag .put-tag .ensures .counts, variant .put-begun .ensures .counts, f .language, f .script, f .region, f .variant)
+
+add-numbering : tie.Need-add-t22
+add-numbering c =
+    let slice-known = c .before .before .before in
+    let numbering = slice-known .before .before in
+    let put-begun-arg3 = numbering .before .before in
+    let variant = put-begun-arg3 .before .before .before in
+    let put-begun-arg = variant .before .before in
+    let put-tag = put-begun-arg .before .before .before in
+    let variant-at = put-tag .before .before .before in
+    let start = variant-at .before .before in
+    let f = few (start .args .r) _ (start .good .0) in
+    omega (
+      arith,
+      put-tag .put-tag .ensures .counts,
+      variant .put-begun .ensures .counts,
+      numbering .put-begun2 .ensures .counts,
+      f .language,
+      f .script,
+      f .region,
+      f .variant,
+      f .numbering,
+    )
+
 returns : tie.Need-returns
 unfolding newWords
 returns c =
-    let put-begun2 = c .before .before in
-    let put-begun-arg3 = put-begun2 .before .before in
-    let put-begun = put-begun-arg3 .before .before .before in
-    let put-begun-arg = put-begun .before .before in
-    let put-own-region = put-begun-arg .before .before .before in
-    let put-own-region-arg = put-own-region .before .before in
-    let put-script = put-own-region-arg .before .before .before in
-    let out2 = put-script .before .before .before in
-    let put-own-language = out2 .before in
-    let out = put-own-language .before .before .before in
-    let put = out .before in
-    let with-language = put-put (put .put .ensures) (put-own-language .put-own-language .ensures) in
-    let with-script = put-put with-language (put-script .put-script .ensures) in
-    let with-region = put-put with-script (put-own-region .put-own-region .ensures) in
-    let with-variant = put-put with-region (put-begun .put-begun .ensures) in
-    put-put with-variant (put-begun2 .put-begun2 .ensures)
+    let slice-known = c .before .before .before in
+    let numbering = slice-known .before .before in
+    let put-begun-arg3 = numbering .before .before in
+    let variant = put-begun-arg3 .before .before .before in
+    let put-begun-arg = variant .before .before in
+    let put-tag = put-begun-arg .before .before .before in
+    let variant-at = put-tag .before .before .before in
+    let start = variant-at .before .before in
+    rw (parts-new (start .args .r))
+    (copy-copy (copy-copy (put-tag .put-tag .ensures) (variant .put-begun .ensures)) (numbering .put-begun2 .ensures))
 
 pub put-new-spec : {M : Type 1} → statement M
 put-new-spec =
     tie.close
     (tie.spec
-    (λ c. search needs) (λ c κs. tt) (λ c κs. tt) (λ c κs. tt) (λ c. search needs) (λ c κs. tt) (λ c. search needs) (λ c κs. tt)
-    (λ c. search needs) (λ c κs. tt)
-    (λ c. put-same (returns c)) returns)
+    (λ c κs. tt) (λ c. search needs) (λ c κs. tt) (λ c. search needs) (λ c κs. tt) add-variant add-numbering (λ c. search needs) returns)

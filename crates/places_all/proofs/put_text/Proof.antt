@@ -16,11 +16,16 @@ returns c =
     let put-first = out .before in
     let start = put-first .before .before .before in
     let r = start .args .r in
-    said-more (take 13 (placesOf r)) (put-first .put-first .ensures)
-    (says-both (places-from-13 .places-from-13 .ensures) (places-from-18 .places-from-18 .ensures))
+    let first = put-first .put-first .ensures in
+    record {
+      puts =
+          said-more (take 13 (placesOf r)) (first .puts)
+          (says-both (places-from-13 .places-from-13 .ensures) (places-from-18 .places-from-18 .ensures));
+      counts = first .counts;
+    }
 
 pub put-text-spec : {M : Type 1} → statement M
 put-text-spec =
     tie.close
     (tie.spec
-    (λ c κs. tt) (λ c κs. tt) (λ c κs. tt) (λ c. put-same (returns c)) returns)
+    (λ c κs. tt) (λ c κs. tt) (λ c κs. tt) (λ c. put-same (returns c .puts)) returns)

@@ -19,13 +19,16 @@ returns c =
     let mcc-mnc = grammatical-inflection .before in
     let gender = grammatical-inflection .get-grammatical-inflection .ensures in
     let codes = mcc-mnc .get-mcc-mnc .ensures in
-    says-more (rw codes at (label-place .label-place .ensures))
-    (says-more (rw codes at (label-place2 .label-place2 .ensures))
-    (says-more (locale-place .locale-place .ensures) (rw gender at (grammatical-gender-place .grammatical-gender-place .ensures))))
+    let locale = locale-place .locale-place .ensures in (
+      says-more (rw codes at (label-place .label-place .ensures))
+          (says-more (rw codes at (label-place2 .label-place2 .ensures))
+          (says-more (locale .0) (rw gender at (grammatical-gender-place .grammatical-gender-place .ensures)))),
+      locale .1,
+    )
 
 pub places-from-0-spec : {M : Type 1} → statement M
 places-from-0-spec =
     tie.close
     (tie.spec
     (λ c κs. tt) (λ c κs. tt) (λ c. search needs) (λ c κs. tt) (λ c. search needs) (λ c κs. tt) (λ c κs. tt) (λ c κs. tt)
-    (λ c. returns c .keeps) returns)
+    (λ c. returns c .0 .keeps) returns)

@@ -13,11 +13,14 @@ returns c =
     let places-from-4 = out2 .before in
     let out = places-from-4 .before .before .before in
     let places-from-0 = out .before in
-    said-all (says-both (says-both (places-from-0 .places-from-0 .ensures) (places-from-4 .places-from-4 .ensures))
-    (places-from-8 .places-from-8 .ensures))
+    let first = places-from-0 .places-from-0 .ensures in
+    record {
+      puts = said-all (says-both (says-both (first .0) (places-from-4 .places-from-4 .ensures)) (places-from-8 .places-from-8 .ensures));
+      counts = first .1;
+    }
 
 pub put-first-spec : {M : Type 1} → statement M
 put-first-spec =
     tie.close
     (tie.spec
-    (λ c κs. tt) (λ c κs. tt) (λ c κs. tt) (λ c. put-same (returns c)) returns)
+    (λ c κs. tt) (λ c κs. tt) (λ c κs. tt) (λ c. put-same (returns c .puts)) returns)

@@ -1,5 +1,5 @@
 -- What is put goes by the bytes that were looked at. Assumes nothing.
-use mathlib.Core.Path.{sym, _∙_}
+use mathlib.Core.Path.{refl, sym, _∙_}
 use borrow.Author.Needs.{needs}
 use Rattle.record_line.proofs.put_unless_held.Statement.{statement}
 use Rattle.record_line.proofs.put_unless_held.Tie as tie
@@ -9,7 +9,7 @@ returns c =
     let put = c .before .before in
     let if1 = put .before .before .before in
     let late-bytes = if1 .before in
-    rw (sym (late-bytes .late-bytes .ensures) ∙ if1 .if1 .taken) (put .put .ensures)
+    rw (sym (late-bytes .late-bytes .ensures) ∙ if1 .if1 .taken) (record { puts = put .put .ensures; counts = refl })
 
 returns-2 : tie.Need-returns-2
 returns-2 c =

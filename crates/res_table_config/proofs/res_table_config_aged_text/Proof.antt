@@ -1,4 +1,6 @@
 -- What `aged_text` answers, told and packed. Assumes nothing.
+use mathlib.Core.Path.{ap}
+use Rattle.buffer.specs.Counted.{CountedOutcome}
 use Rattle.res_table_config.proofs.Small.{aged-small}
 use Rattle.res_table_config.proofs.Answers.{written-fits, written-told}
 use borrow.Author.Needs.{needs}
@@ -13,10 +15,10 @@ res-table-config-aged-text-spec =
     (λ c κs.
     let aged-text = c .before .before .before in
     let are-bytes = aged-text .before .before in
-    written-fits (aged-text .aged-text .result) _ _ _ (aged-text .aged-text .ensures) (c .told .ensures)
+    written-fits (aged-text .aged-text .result .answer) _ _ _ (ap (λ (o : CountedOutcome). o .does) (aged-text .aged-text .ensures)) (c .told .ensures)
     (aged-small _ _ _ (are-bytes .are-bytes .ensures)))
     (λ c. search needs)
     (λ c.
     let told = c .before in
     let aged-text = told .before .before .before in
-    written-told (aged-text .aged-text .result) _ _ _ (aged-text .aged-text .ensures) (told .told .ensures) _ (c .packed .ensures)))
+    written-told (aged-text .aged-text .result .answer) _ _ _ (ap (λ (o : CountedOutcome). o .does) (aged-text .aged-text .ensures)) (told .told .ensures) _ (c .packed .ensures)))

@@ -1,4 +1,6 @@
 -- What `plain_text` answers, told and packed. Assumes nothing.
+use mathlib.Core.Path.{ap}
+use Rattle.buffer.specs.Counted.{CountedOutcome}
 use Rattle.res_table_config.proofs.Small.{text-small}
 use Rattle.res_table_config.proofs.Answers.{written-fits, written-told}
 use borrow.Author.Needs.{needs}
@@ -13,10 +15,10 @@ res-table-config-text-spec =
     (λ c κs.
     let plain-text = c .before .before .before in
     let are-bytes = plain-text .before .before in
-    written-fits (plain-text .plain-text .result) _ _ _ (plain-text .plain-text .ensures) (c .told .ensures)
+    written-fits (plain-text .plain-text .result .answer) _ _ _ (ap (λ (o : CountedOutcome). o .does) (plain-text .plain-text .ensures)) (c .told .ensures)
     (text-small _ _ (are-bytes .are-bytes .ensures)))
     (λ c. search needs)
     (λ c.
     let told = c .before in
     let plain-text = told .before .before .before in
-    written-told (plain-text .plain-text .result) _ _ _ (plain-text .plain-text .ensures) (told .told .ensures) _ (c .packed .ensures)))
+    written-told (plain-text .plain-text .result .answer) _ _ _ (ap (λ (o : CountedOutcome). o .does) (plain-text .plain-text .ensures)) (told .told .ensures) _ (c .packed .ensures)))

@@ -3,7 +3,7 @@ use mathlib.Core.Path.{ap, _∙_}
 use mathlib.Core.List.{List}
 use Prim.Native.Nat.{ℕ}
 use denote.Ref.{now}
-use Rattle.text.specs.Text.{agedText}
+use Rattle.text.specs.Counted.{countedAged}
 use Rattle.laws.proofs.Lists.{rest-from}
 use borrow.Author.Needs.{needs}
 use Rattle.runs.proofs.text_at.Statement.{statement}
@@ -15,7 +15,7 @@ returns c =
     let from = call .before .before .before in
     let a = from .before .before .before .args in
     call .aged-text .ensures
-    ∙ ap (λ (t : List ℕ). agedText (a .age .0) t (now (a .out))) (rest-from (now (a .bytes)) (a .offset) _ (from .lesser .ensures))
+    ∙ ap (λ (t : List ℕ). countedAged (a .age .0) t (now (a .out))) (rest-from (now (a .bytes)) (a .offset) _ (from .lesser .ensures))
 
 pub text-at-spec : {M : Type 1} → statement M
 text-at-spec =

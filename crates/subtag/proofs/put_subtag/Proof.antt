@@ -2,6 +2,7 @@
 use mathlib.Core.Path.{sym}
 use borrow.Author.Needs.{needs}
 use lib.Seq.{length-take-le}
+use Rattle.subtag.proofs.Counts.{count-trimmed}
 use Rattle.subtag.proofs.Strip.{subtag-is}
 use Rattle.subtag.proofs.put_subtag.Statement.{statement}
 use Rattle.subtag.proofs.put_subtag.Tie as tie
@@ -16,4 +17,4 @@ put-subtag-spec =
     (λ c.
     let put-replaced = c .before .before in
     let trim = put-replaced .before .before .before in
-    rw (subtag-is _, ← trim .trim .ensures .1) (put-replaced .put-replaced .ensures)))
+    rw (subtag-is _, count-trimmed _, ← trim .trim .ensures .1) (put-replaced .put-replaced .ensures)))

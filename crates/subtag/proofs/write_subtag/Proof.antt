@@ -10,11 +10,17 @@ use lib.ListN.{length}
 use lib.Seq.{length-take-le}
 use Rattle.answers.specs.declared.Written.{Written}
 use Rattle.answers.specs.declared.Refusal.{Refusal}
-use Rattle.buffer.specs.Put.{Put}
-use Rattle.buffer.specs.Written.{outcome, written}
-use Rattle.buffer.proofs.Putting.{front-ends}
-use Rattle.buffer.proofs.Writing.{put-written, written-short}
+use Rattle.answers.specs.Counted.{countedWith}
+use Rattle.buffer.specs.Counted.{countedOutcome, counting}
+use Rattle.buffer.specs.Written.{written}
+use Rattle.buffer.proofs.Counting.{answer-counted}
+use Rattle.buffer.proofs.Writing.{written-short}
+use Rattle.subtag.specs.declared.Copied.{Copied}
+use Rattle.subtag.specs.Copies.{Copies}
+use Rattle.subtag.specs.Replacements.{replacements}
 use Rattle.subtag.specs.Subtag.{replaced, dropNuls, subtagOf}
+use Rattle.subtag.proofs.Copying.{copy-written}
+use Rattle.subtag.proofs.Counts.{count-trimmed}
 use Rattle.subtag.proofs.Strip.{subtag-is}
 use Rattle.subtag.proofs.write_subtag.Statement.{statement}
 use Rattle.subtag.proofs.write_subtag.Tie as tie
@@ -24,13 +30,18 @@ module _ (s t old : List ℕ) (b : Bool) (trimmed : t ≡ dropNuls s) (told : b 
   text : replaced t ≡ subtagOf s
   text = rw trimmed (sym (subtag-is s))
 
-  fits : (new : List ℕ) (r : ℕ) → b ≡ true → Put old 0 (replaced t) new r → outcome (Written.Wrote r) new ≡ written (subtagOf s) old
+  fits : (new : List ℕ) (r : Copied) → b ≡ true → Copies old 0 (replaced t) (replacements t) new r
+      → countedOutcome (countedWith (r .replacements) (Written.Wrote (r .at))) new ≡ counting (replacements s) (written (subtagOf s) old)
   fits new r e p =
       let l = leb-true (length (replaced t)) (length old) (sym told ∙ e) in
-      rw (← text, front-ends p l) (put-written l p)
+      let n : replacements t ≡ replacements s = rw trimmed (sym (count-trimmed s)) in
+      rw (← text, ← n) (copy-written l p)
 
-  short : b ≡ false → outcome (Written.Refused Refusal.ShortBuffer) old ≡ written (subtagOf s) old
-  short e = rw (← text) (sym (written-short (replaced t) old (leb-false (length (replaced t)) (length old) (sym told ∙ e))))
+  short : b ≡ false
+      → countedOutcome (countedWith 0 (Written.Refused Refusal.ShortBuffer)) old ≡ counting (replacements s) (written (subtagOf s) old)
+  short e =
+      answer-counted (replacements s) (Written.Refused Refusal.ShortBuffer)
+      (rw (← text) (sym (written-short (replaced t) old (leb-false (length (replaced t)) (length old) (sym told ∙ e)))))
 
 pub write-subtag-spec : {M : Type 1} → statement M
 write-subtag-spec =
