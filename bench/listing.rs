@@ -6,6 +6,9 @@
 #[path = "../tests/rust/listed.rs"]
 #[allow(dead_code)]
 mod listed;
+#[path = "../tests/rust/replaced.rs"]
+#[allow(dead_code)]
+mod replaced;
 #[path = "../tests/rust/shim.rs"]
 mod shim;
 #[path = "../tests/rust/subject.rs"]

@@ -1,5 +1,5 @@
 /*
- * Resource configuration records of Android packages: five calls on numbers and bytes. Link libres_table_config.a, which
+ * Resource configuration records of Android packages: six calls on numbers and bytes. Link libres_table_config.a, which
  * `rt staticlib res_table_config` writes to target/staticlib/ (x86-64 Linux).
  *
  * Answers. Each call answers one number: a refusal's number in the upper 32 bits, 0 for a success, and an amount in the lower
@@ -64,6 +64,10 @@ uint64_t res_table_config_text(const uint8_t *bytes, size_t len, uint8_t *out, s
 
 /* Writes the record's text for a reader of an age; the amount is its length. Refusals 3, 1, 2, 4, 5. */
 uint64_t res_table_config_aged_text(const uint8_t *bytes, size_t len, uint32_t age, uint8_t *out, size_t cap);
+
+/* How many replacements the record's text for a reader of an age has: how often EF BF BD stands in it for bytes that are no UTF-8. One
+   that the record itself has isn't counted. Refusals 3, 1, 2, 4. */
+uint64_t res_table_config_replaced(const uint8_t *bytes, size_t len, uint32_t age);
 
 /* Writes a letter for each field after size, in field order: U past the age, A absent, B blank, F filled. The amount is 14.
    Refusals 3, 1, 2, 5. */

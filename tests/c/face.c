@@ -125,6 +125,42 @@ static void aged_text(void) {
     ended("aged text");
 }
 
+/* The locale of a record of 64 bytes: its language, and what stands in its variant. */
+static void locale(uint8_t *bytes, uint8_t a, uint8_t b, const char *variant) {
+    record(bytes, 64, 8, a);
+    bytes[9] = b;
+    for (size_t i = 0; i < 8 && variant[i]; i++) bytes[40 + i] = (uint8_t)variant[i];
+}
+
+static void replaced(void) {
+    uint8_t bytes[80];
+    locale(bytes, 255, 255, "");
+    CHECK(res_table_config_replaced(bytes, 64, 64) == 3);
+    CHECK(res_table_config_replaced(bytes, 64, 16) == 3);
+    locale(bytes, 'e', 'n', "\xef\xbf\xbd");
+    CHECK(res_table_config_replaced(bytes, 64, 64) == 0);
+    locale(bytes, 'e', 'n', "\xe2\x82");
+    bytes[43] = 'A';
+    CHECK(res_table_config_replaced(bytes, 64, 64) == 1);
+    locale(bytes, 'e', 'n', "\xef\xbf\xbd\xff\xef\xbf\xbd\xef");
+    CHECK(res_table_config_replaced(bytes, 80, 64) == 2);
+    CHECK(res_table_config_replaced(LONGEST, 64, 64) == 24);
+    for (size_t i = 0; i < 64; i++) bytes[i] = LONGEST[i];
+    bytes[52] = 1;
+    CHECK(res_table_config_replaced(bytes, 64, 64) == 20);
+    bytes[8] = 0;
+    CHECK(res_table_config_replaced(bytes, 64, 64) == 0);
+    CHECK(res_table_config_replaced(PHONE, 16, 16) == 0);
+    CHECK(refused(res_table_config_replaced(LONGEST, 15, 33), RES_TABLE_CONFIG_NOT_AN_AGE));
+    CHECK(refused(res_table_config_replaced(LONGEST, 63, 33), RES_TABLE_CONFIG_NOT_AN_AGE));
+    CHECK(refused(res_table_config_replaced(LONGEST, 64, 33), RES_TABLE_CONFIG_NOT_AN_AGE));
+    CHECK(refused(res_table_config_replaced(LONGEST, 15, 61), RES_TABLE_CONFIG_FEWER_THAN_16));
+    CHECK(refused(res_table_config_replaced(LONGEST, 63, 53), RES_TABLE_CONFIG_FEWER_THAN_SIZE));
+    CHECK(refused(res_table_config_replaced(LONGEST, 64, 53), RES_TABLE_CONFIG_HELD_BACK));
+    CHECK(res_table_config_replaced(LONGEST, 64, 61) == 24);
+    ended("replaced");
+}
+
 static void marks(void) {
     uint8_t bytes[80];
     record(bytes, 36, 32, 100);
@@ -169,6 +205,7 @@ int main(void) {
     take();
     text();
     aged_text();
+    replaced();
     marks();
     order();
     header();

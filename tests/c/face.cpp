@@ -4,6 +4,9 @@
 
 static const uint8_t SWEDISH[16] = {16, 0, 0, 0, 0, 0, 0, 0, 's', 'v'};
 
+// The same with a byte for its second letter that is none.
+static const uint8_t DAMAGED[16] = {16, 0, 0, 0, 0, 0, 0, 0, 's', 0xff};
+
 // Each call once: whether the answer is the right one.
 extern "C" int face_from_cpp(int *failed) {
     uint8_t text[RES_TABLE_CONFIG_TEXT_MOST] = {};
@@ -13,6 +16,7 @@ extern "C" int face_from_cpp(int *failed) {
         res_table_config_take(SWEDISH, sizeof SWEDISH) == 16,
         res_table_config_text(SWEDISH, sizeof SWEDISH, text, sizeof text) == 2 && text[0] == 's' && text[1] == 'v',
         res_table_config_aged_text(SWEDISH, sizeof SWEDISH, 16, aged, sizeof aged) == 2 && aged[1] == 'v',
+        res_table_config_replaced(DAMAGED, sizeof DAMAGED, 16) == 1,
         res_table_config_marks(SWEDISH, sizeof SWEDISH, 16, marks, sizeof marks) == 14 && marks[1] == 'F',
         res_table_config_order(SWEDISH, sizeof SWEDISH, SWEDISH, sizeof SWEDISH) == RES_TABLE_CONFIG_EQUAL,
         res_table_config_number(res_table_config_take(SWEDISH, 15)) == RES_TABLE_CONFIG_FEWER_THAN_16,

@@ -25,7 +25,7 @@ uint64_t probe_walk(const uint8_t *bytes, size_t len, size_t offset);
 size_t probe_records(const uint8_t *bytes, size_t len, size_t offset);
 uint64_t probe_write(const uint8_t *bytes, size_t len, uint32_t size, uint8_t *out, size_t cap);
 
-enum { TAKE, TEXT, AGED_TEXT, MARKS, ORDER, FIRST_LINE, LINE, NEXT, WALK, RECORDS, WRITE, END = 255 };
+enum { TAKE, TEXT, AGED_TEXT, REPLACED, MARKS, ORDER, FIRST_LINE, LINE, NEXT, WALK, RECORDS, WRITE, END = 255 };
 
 #define HEADER 33
 #define ANSWER 13
@@ -128,6 +128,7 @@ static uint64_t call(const struct question *q, const uint8_t *a, const uint8_t *
     case TAKE: return res_table_config_take(a, length);
     case TEXT: return res_table_config_text(a, length, to, lent);
     case AGED_TEXT: return res_table_config_aged_text(a, length, q->number, to, lent);
+    case REPLACED: return res_table_config_replaced(a, length, q->number);
     case MARKS: return res_table_config_marks(a, length, q->number, to, lent);
     case ORDER: return res_table_config_order(a, length, b, q->second_length);
     case FIRST_LINE: return probe_first_line(a, length, q->number, to, lent);

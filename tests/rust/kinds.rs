@@ -31,6 +31,7 @@ pub const ASKED: &[Asked] = &[
             let flag = ResTableConfigFlags::FLAGS.get(usize::from(row[0]));
             flag.map_or(0, ResTableConfigFlags::bits).to_le_bytes().to_vec()
         },
+        replacements_at: None,
     },
     Asked {
         tag: 17,
@@ -38,6 +39,7 @@ pub const ASKED: &[Asked] = &[
         full: |_| every(u16::MAX),
         fixed: u16::few,
         answer: |n| u16::from(Density::from(number(n))).to_le_bytes().to_vec(),
+        replacements_at: None,
     },
     SHEET,
 ];
@@ -68,6 +70,7 @@ macro_rules! kind {
                 answer.extend(kind.to_string().bytes());
                 answer
             },
+            replacements_at: None,
         }
     };
 }

@@ -1,5 +1,6 @@
 //! 01's listing of a run, line by line by 01's rules, over what 000 parses and says. The comparison takes it for what is right, and
 //! the benchmark for what a listing costs in Rust.
+use crate::replaced;
 use crate::subject::{reach, ResTableConfig};
 use std::io::{Result, Write};
 
@@ -40,11 +41,11 @@ pub fn put_record_line(out: &mut Vec<u8>, bytes: &[u8], age: usize, index: usize
     out.extend_from_slice(&marks(whole, record.size as usize, age));
     out.push(b' ');
     if held_back(whole, age) {
-        out.extend_from_slice(b"%!");
+        writeln!(out, "%! 0")?;
     } else {
         put_escaped(out, &record.as_string())?;
+        writeln!(out, " {}", replaced::in_record(&record))?;
     }
-    out.push(b'\n');
     Ok(Some(amount))
 }
 

@@ -3,6 +3,7 @@ use crate::listed::MOST;
 use crate::payloads::{all_of, declared, record, usual, RECORDS};
 use crate::questions::Random;
 use crate::spellings::{LONGEST, PLACES, SPELLED};
+use crate::spoilt::{counted_by_hand, SPOILT};
 
 /// 01's example, the corners of a run, and runs of records whole and damaged.
 pub fn runs(random: &mut Random, count: usize) -> Vec<Vec<u8>> {
@@ -22,9 +23,16 @@ pub fn runs(random: &mut Random, count: usize) -> Vec<Vec<u8>> {
     runs.extend([tail(65, 64), tail(80, 79), [usual(random), tail(72, 70), usual(random)].concat()]);
     let mut pool = [all_of(PLACES, random), all_of(SPELLED, random), all_of(RECORDS, random)].concat();
     pool.retain(|bytes| bytes.len() < 200);
+    let spoilt = all_of(SPOILT, random);
+    runs.push(counted_by_hand(random).concat());
     runs.extend((0..count).map(|_| {
         let parts = 1 + random.below(24);
-        (0..parts).flat_map(|_| if random.below(9) < 4 { usual(random) } else { pool[random.below(pool.len())].clone() }).collect()
+        let part = |_| match random.below(9) {
+            0..=3 => usual(random),
+            4 => spoilt[random.below(spoilt.len())].clone(),
+            _ => pool[random.below(pool.len())].clone(),
+        };
+        (0..parts).flat_map(part).collect()
     }));
     let mut full: Vec<u8> = (0..4096).flat_map(|_| usual(random)).collect();
     full.truncate(MOST);

@@ -5,15 +5,17 @@ mod listing;
 mod payloads;
 mod questions;
 mod records;
+mod replaced;
 mod runs;
 mod scale;
 mod sheets;
 mod shim;
 mod spellings;
+mod spoilt;
 mod subject;
 mod texts;
 
-use questions::{answered_by, Question};
+use questions::{answered_by, Asked, Question};
 use std::io::{Read, Write};
 use std::process::ExitCode;
 
@@ -112,7 +114,7 @@ fn answer(program: &str) -> Result<(), String> {
     write(lines.as_bytes())
 }
 
-/// Compares two files of answers to a program's questions, and says how many questions of each kind were asked.
+/// Compares two files of answers to a program's questions, and says how many there are of each kind.
 fn compare(program: &str, questions: &str, expected: &str, got: &str) -> Result<(), String> {
     let table = answered_by(program)?;
     let file = |path: &str| std::fs::read(path).map_err(|e| format!("{path}: {e}"));
@@ -134,14 +136,32 @@ fn compare(program: &str, questions: &str, expected: &str, got: &str) -> Result<
         }
     }
     if let (None, None) = (rust.next(), port.next()) {
-        for asked in table {
-            let count = questions.iter().filter(|question| question.asked.tag == asked.tag).count();
-            println!("{count:8} {}", asked.name);
-        }
-        println!("{:8} questions, every answer the same byte for byte", questions.len());
-        return Ok(());
+        return counted(table, &questions, &expected);
     }
     Err(format!("there are more answers than the {} questions", questions.len()))
+}
+
+/// Says how many questions of each kind were answered alike and, of a kind that gives texts, how many of these have replacements: none is a
+/// failure.
+fn counted(table: &[Asked], questions: &[Question], answers: &[u8]) -> Result<(), String> {
+    for asked in table {
+        let answered = questions.iter().zip(answers.split(|b| *b == b'\n'));
+        let of_kind = answered.filter(|(question, _)| question.asked.tag == asked.tag).map(|(_, answer)| answer);
+        let (count, replaced) = (of_kind.clone().count(), of_kind.filter(|answer| replaced(asked, answer)).count());
+        match asked.replacements_at {
+            Some(_) if replaced == 0 => return Err(format!("{}: no text has a replacement", asked.name)),
+            Some(_) => println!("{count:8} {}, {replaced} with replacements", asked.name),
+            None => println!("{count:8} {}", asked.name),
+        }
+    }
+    println!("{:8} questions, every answer the same byte for byte", questions.len());
+    Ok(())
+}
+
+/// Whether an answer, in its digits, gives a text that has replacements.
+fn replaced(asked: &Asked, answer: &[u8]) -> bool {
+    let digits = asked.replacements_at.and_then(|at| answer.get(2 * at..2 * (at + 8)));
+    digits.is_some_and(|digits| digits.iter().any(|digit| *digit != b'0'))
 }
 
 /// A line of answers as a message shows it.

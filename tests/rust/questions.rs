@@ -1,13 +1,15 @@
 //! What a question is, how questions are made, and how they are framed: tag, length in four bytes, payload.
 use crate::{kinds, records, texts};
 
-/// One kind of question: its tag, its name, its payloads in the full run and in the fixed list, and how the Rust answers.
+/// One kind of question: its tag, its name, its payloads in the full run and in the fixed list, how the Rust answers, and where an answer
+/// that gives a text says in eight bytes how many replacements it has.
 pub struct Asked {
     pub tag: u8,
     pub name: &'static str,
     pub full: fn(&mut Random) -> Vec<Vec<u8>>,
     pub fixed: fn() -> Vec<Vec<u8>>,
     pub answer: fn(&[u8]) -> Vec<u8>,
+    pub replacements_at: Option<usize>,
 }
 
 /// The programs over the port that answer questions, and the kinds of question that each answers, a table to a file.

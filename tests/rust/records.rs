@@ -15,6 +15,7 @@ pub const ASKED: &[Asked] = &[
         full: |random| all_of(RECORDS, random),
         fixed: || few_of(RECORDS, 14),
         answer: |bytes| told(taken(bytes).map(|(record, amount)| parsed(&record, amount))),
+        replacements_at: None,
     },
     Asked {
         tag: 33,
@@ -22,6 +23,7 @@ pub const ASKED: &[Asked] = &[
         full: |random| all_of(ACCESSED, random),
         fixed: || few_of(ACCESSED, 16),
         answer: |bytes| told(taken(bytes).map(|(record, _)| accessed(&record))),
+        replacements_at: None,
     },
     Asked {
         tag: 34,
@@ -36,6 +38,7 @@ pub const ASKED: &[Asked] = &[
                 fields(&record)
             }))
         },
+        replacements_at: None,
     },
     Asked {
         tag: 35,
@@ -46,6 +49,7 @@ pub const ASKED: &[Asked] = &[
             let (first, second) = parts(payload);
             told(taken(first).zip(taken(second)).map(|((a, _), (b, _))| compared(&a, &b)))
         },
+        replacements_at: None,
     },
     Asked {
         tag: 36,
@@ -53,6 +57,7 @@ pub const ASKED: &[Asked] = &[
         full: |random| all_of(RECORDS, random),
         fixed: || few_of(RECORDS, 4),
         answer: |bytes| told(taken(bytes).map(|(record, _)| written(&record))),
+        replacements_at: None,
     },
     STEP_AT,
     READ_AT,

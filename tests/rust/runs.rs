@@ -4,37 +4,40 @@ use crate::listed::held_back;
 use crate::payloads::{all_of, declare, declared, few_of, many, one, record, Maker, ENDS, RECORDS};
 use crate::questions::{Asked, Random};
 use crate::records::fields;
+use crate::replaced::in_record;
 use crate::scale::expected::{age, wanted, whole, Wanted};
 use crate::scale::inputs::{any_age, cursor, long_run, room, run};
 use crate::scale::Call;
 use crate::spellings::{PLACES, SPELLED};
+use crate::spoilt::{counted_by_hand, SPOILT};
 
-/// A row of this file: an answer to what is asked at an offset.
+/// A row of this file: an answer to what is asked at an offset, and where it has the replacements of a text.
 macro_rules! at_a_place {
-    ($tag:literal, $name:literal, $answer:expr) => {
+    ($tag:literal, $name:literal, $answer:expr, $replacements_at:expr) => {
         Asked {
             tag: $tag,
             name: $name,
             full: |random| all_of(AT_OFFSETS, random),
-            fixed: || few_of(AT_OFFSETS, 40),
+            fixed: || few_of(AT_OFFSETS, 28),
             answer: |payload| {
                 let answer: fn(AtOffset) -> Vec<u8> = $answer;
                 answer(AtOffset::read(payload))
             },
+            replacements_at: $replacements_at,
         }
     };
 }
 
 /// The rows of the questions.
-pub const STEP_AT: Asked = at_a_place!(37, "step_at", |at| stepped(&at, at.age));
-pub const READ_AT: Asked = at_a_place!(38, "read_at", |at| stepped(&at, at.age));
-pub const SOUGHT: Asked = at_a_place!(39, "RunReader::new, moved", |at| stepped(&at, 64));
-pub const HELD_BACK: Asked = at_a_place!(40, "held_back", held);
-pub const TEXT_AT: Asked = at_a_place!(41, "text_at", |at| wrote(at, Call::AgedText));
-pub const MARKS_AT: Asked = at_a_place!(42, "marks_at", |at| wrote(at, Call::Marks));
+pub const STEP_AT: Asked = at_a_place!(37, "step_at", |at| stepped(&at, at.age), None);
+pub const READ_AT: Asked = at_a_place!(38, "read_at", |at| stepped(&at, at.age), None);
+pub const SOUGHT: Asked = at_a_place!(39, "RunReader::new, moved", |at| stepped(&at, 64), None);
+pub const HELD_BACK: Asked = at_a_place!(40, "held_back", held, None);
+pub const TEXT_AT: Asked = at_a_place!(41, "text_at", |at| wrote(at, Call::AgedText), Some(12));
+pub const MARKS_AT: Asked = at_a_place!(42, "marks_at", |at| wrote(at, Call::Marks), None);
 
 /// What the questions are asked about.
-const AT_OFFSETS: &[Maker] = &[everywhere, one_late, in_runs, of_records, in_long_runs];
+const AT_OFFSETS: &[Maker] = &[everywhere, one_late, in_runs, of_records, spoilt, in_long_runs];
 
 /// What a payload holds: an age, an offset, the bytes that are lent, and the run.
 struct AtOffset<'a> {
@@ -133,6 +136,20 @@ fn of_records(random: &mut Random) -> Vec<Vec<u8>> {
         .collect()
 }
 
+/// Spoilt locales behind a blank record: those that are counted by hand at every age, and others, every other one at 64.
+fn spoilt(random: &mut Random) -> Vec<Vec<u8>> {
+    let mut asked = Vec::new();
+    for bytes in counted_by_hand(random) {
+        asked.extend(ENDS[3..].iter().map(|age| (*age as u32, bytes.clone())));
+    }
+    let pool = all_of(SPOILT, random);
+    for _ in 0..4_000 {
+        let age = if random.below(2) == 0 { 64 } else { any_age(random) };
+        asked.push((age, pool[random.below(pool.len())].clone()));
+    }
+    asked.into_iter().map(|(age, bytes)| at_offset(random, age, 16, &[vec![0; 16], bytes].concat())).collect()
+}
+
 /// Offsets of runs of up to 65,536 bytes.
 fn in_long_runs(random: &mut Random) -> Vec<Vec<u8>> {
     many(60, random, |random| {
@@ -171,17 +188,21 @@ fn held(at: AtOffset) -> Vec<u8> {
     }
 }
 
-/// What a call that writes tells, and the lent bytes as it leaves them.
+/// What a call that writes tells, how many replacements its text has, and the lent bytes as it leaves them. Marks have none, nor has a call
+/// that is refused made any.
 fn wrote(at: AtOffset, call: Call) -> Vec<u8> {
     let wanted: Wanted = wanted(call, at.age, 0, 0, at.rest());
-    let mut left = at.lent.to_vec();
+    let (mut left, mut replacements) = (at.lent.to_vec(), 0);
     let told = match wanted {
         Ok(bytes) if bytes.len() <= left.len() => {
             left[..bytes.len()].copy_from_slice(&bytes);
+            if call == Call::AgedText {
+                replacements = whole(at.rest()).map_or(0, |(record, _)| in_record(&record)) as u64;
+            }
             told(0, bytes.len())
         }
         Ok(_) => told(5, 0),
         Err(number) => told(number, 0),
     };
-    [told, left].concat()
+    [told, replacements.to_le_bytes().to_vec(), left].concat()
 }

@@ -18,6 +18,7 @@ pub enum Call {
     Take,
     Text,
     AgedText,
+    Replaced,
     Marks,
     Order,
     FirstLine,
@@ -29,10 +30,11 @@ pub enum Call {
 }
 
 /// The calls with their names.
-pub const CALLS: [(Call, &str); 11] = [
+pub const CALLS: [(Call, &str); 12] = [
     (Call::Take, "take"),
     (Call::Text, "text"),
     (Call::AgedText, "aged text"),
+    (Call::Replaced, "replaced"),
     (Call::Marks, "marks"),
     (Call::Order, "order"),
     (Call::FirstLine, "1st line"),
@@ -211,6 +213,6 @@ pub fn check(name: &str, seed: &str) -> Result<(), String> {
                 got.said()
             ));
         }
-        tally.add(&question, outcome.number);
+        tally.add(&question, &outcome);
     }
 }

@@ -15,6 +15,7 @@ pub const SHEET: Asked = Asked {
     full: |random| [PLACES, SPELLED, RECORDS].map(|makers| all_of(makers, random)).concat(),
     fixed: || [vec![LONGEST.to_vec()], few_of(PLACES, 40), few_of(SPELLED, 10), few_of(RECORDS, 8)].concat(),
     answer: |bytes| told(taken(bytes).map(|(record, _)| sheet(&record))),
+    replacements_at: None,
 };
 
 /// When the place of each kind is said: what its mask leaves of its number, in units of the mask's lowest bit, is from 1 to its

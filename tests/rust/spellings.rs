@@ -65,10 +65,10 @@ const LEADS: [(u8, u8); 12] = [
 const FOLLOWERS: [u8; 13] = [0x00, 0x41, 0x7f, 0x80, 0x8f, 0x90, 0x9f, 0xa0, 0xbf, 0xc2, 0xe2, 0xf0, 0xff];
 
 /// Where script, variant and numbering system lie.
-const SUBTAGGED: [Range<usize>; 3] = [36..40, 40..48, 53..61];
+pub const SUBTAGGED: [Range<usize>; 3] = [36..40, 40..48, 53..61];
 
 /// Where it stands whether the script was computed.
-const COMPUTED: usize = 52;
+pub const COMPUTED: usize = 52;
 
 /// Three letters packed in two bytes.
 const fn packed(word: &[u8; 3], base: u8) -> [u8; 2] {
@@ -77,7 +77,7 @@ const fn packed(word: &[u8; 3], base: u8) -> [u8; 2] {
 }
 
 /// A record of 64 bytes that says nothing.
-fn empty() -> Vec<u8> {
+pub fn empty() -> Vec<u8> {
     let mut bytes = vec![0; 64];
     declare(&mut bytes, 64);
     bytes
@@ -93,7 +93,7 @@ fn full() -> Vec<u8> {
 }
 
 /// A record that says nothing, everything, or anything.
-fn ground(random: &mut Random) -> Vec<u8> {
+pub fn ground(random: &mut Random) -> Vec<u8> {
     match random.below(3) {
         0 => empty(),
         1 => full(),

@@ -13,6 +13,7 @@ pub mod reach {
     pub fn parse(input: &mut &[u8]) -> Option<ResTableConfig> {
         ResTableConfig::parse(input).ok()
     }
+
     /// The words of the two bytes of a language.
     pub fn unpack_language(bytes: [u8; 2]) -> String {
         ResTableConfig::default().unpack_language(bytes)
@@ -21,6 +22,16 @@ pub mod reach {
     /// The words of the two bytes of a region.
     pub fn unpack_region(bytes: [u8; 2]) -> String {
         ResTableConfig::default().unpack_region(bytes)
+    }
+
+    /// The bytes that the two bytes of a language unpack to.
+    pub fn language_bytes(bytes: [u8; 2]) -> [u8; 4] {
+        ResTableConfig::default().unpack_language_or_region(bytes, b'a').1
+    }
+
+    /// The bytes that the two bytes of a region unpack to.
+    pub fn region_bytes(bytes: [u8; 2]) -> [u8; 4] {
+        ResTableConfig::default().unpack_language_or_region(bytes, b'0').1
     }
 
     /// Appends the words of a record's locale to a text.

@@ -1,6 +1,6 @@
 //! Android's resource configuration records, over the proved crate `res_table_config` (`include/res_table_config.h` is its C face).
 //!
-//! Five functions on slices. Each takes every input: what it can't do it refuses with a [`Refusal`], and a refusal writes
+//! Six functions on slices. Each takes every input: what it can't do it refuses with a [`Refusal`], and a refusal writes
 //! nothing. Ages are plain numbers; twelve of them are ages.
 //!
 //! ```
@@ -83,6 +83,7 @@ mod face {
         pub fn res_table_config_take(bytes: *const u8, len: usize) -> u64;
         pub fn res_table_config_text(bytes: *const u8, len: usize, out: *mut u8, cap: usize) -> u64;
         pub fn res_table_config_aged_text(bytes: *const u8, len: usize, age: u32, out: *mut u8, cap: usize) -> u64;
+        pub fn res_table_config_replaced(bytes: *const u8, len: usize, age: u32) -> u64;
         pub fn res_table_config_marks(bytes: *const u8, len: usize, age: u32, out: *mut u8, cap: usize) -> u64;
         pub fn res_table_config_order(a: *const u8, a_len: usize, b: *const u8, b_len: usize) -> u64;
     }
@@ -142,6 +143,24 @@ pub fn aged_text<'a>(bytes: &[u8], age: u32, out: &'a mut [u8]) -> Result<&'a [u
     let answer =
         unsafe { face::res_table_config_aged_text(bytes.as_ptr(), bytes.len(), age, out.as_mut_ptr(), out.len()) };
     told(answer).map(|written| &out[..written])
+}
+
+/// How many replacements the text has that [`aged_text`] writes: how often U+FFFD stands in it for bytes that are no UTF-8. One that
+/// the record itself has isn't counted.
+///
+/// Refuses with [`Refusal::NotAnAge`], then as [`take`] does, then with [`Refusal::HeldBack`].
+///
+/// ```
+/// use res_table_config::{replaced, Refusal};
+/// let mut record = *b"\x10\0\0\0\0\0\0\0s\xff\0\0\0\0\0\0";
+/// assert_eq!(replaced(&record, 64), Ok(1));
+/// record[9] = b'v';
+/// assert_eq!(replaced(&record, 64), Ok(0));
+/// assert_eq!(replaced(&record, 65), Err(Refusal::NotAnAge));
+/// ```
+pub fn replaced(bytes: &[u8], age: u32) -> Result<usize, Refusal> {
+    // SAFETY: as for take.
+    told(unsafe { face::res_table_config_replaced(bytes.as_ptr(), bytes.len(), age) })
 }
 
 /// The marks of the record at the front of `bytes` for a reader of an age, a letter for each field after its size: `U` past the

@@ -6,7 +6,7 @@
 #[path = "../examples/list.rs"]
 mod list;
 
-use res_table_config::{aged_text, marks, order, take, text, Refusal, MARKS, TEXT_MOST};
+use res_table_config::{aged_text, marks, order, replaced, take, text, Refusal, MARKS, TEXT_MOST};
 use std::cmp::Ordering;
 
 /// 01's listing: a phone's record, a blank one, and three bytes that are none.
@@ -67,6 +67,35 @@ fn aged_texts() {
     assert_eq!(aged(&record(65, 64, 1), 64, TEXT_MOST), Err(Refusal::HeldBack));
 }
 
+/// A record of 64 bytes with a locale: language and region, script, variant, numbering system.
+fn spelled(letters: &[u8; 4], script: &[u8; 4], variant: &[u8; 8], numbering: &[u8; 8]) -> [u8; 80] {
+    let mut bytes = record(64, 4, 0);
+    bytes[8..12].copy_from_slice(letters);
+    bytes[36..40].copy_from_slice(script);
+    bytes[40..48].copy_from_slice(variant);
+    bytes[53..61].copy_from_slice(numbering);
+    bytes
+}
+
+fn all_replaced() {
+    let damaged = spelled(b"\xff\xff\x01\x80", &[255; 4], &[255; 8], &[255; 8]);
+    assert_eq!(replaced(&damaged, 64), Ok(24));
+    assert_eq!(replaced(&damaged, 61), Ok(24));
+    assert_eq!(replaced(&damaged, 53), Err(Refusal::HeldBack));
+    assert_eq!(replaced(&damaged[..63], 53), Err(Refusal::FewerThanSize));
+    assert_eq!(replaced(&damaged[..15], 53), Err(Refusal::FewerThan16));
+    assert_eq!(replaced(&damaged[..15], 54), Err(Refusal::NotAnAge));
+    assert_eq!(replaced(&damaged[..63], 54), Err(Refusal::NotAnAge));
+    let mut computed = damaged;
+    computed[52] = 1;
+    assert_eq!(replaced(&computed, 64), Ok(20));
+    assert_eq!(replaced(&spelled(b"\0\xff\x01\x80", &[255; 4], &[255; 8], &[255; 8]), 64), Ok(0));
+    assert_eq!(replaced(&spelled(b"\xff\xff\0\0", &[0; 4], &[0; 8], &[0; 8]), 16), Ok(3));
+    assert_eq!(replaced(&spelled(b"en\0\0", &[0; 4], b"\xef\xbf\xbd\0\0\0\0\0", &[0; 8]), 64), Ok(0));
+    assert_eq!(replaced(&spelled(b"en\0\0", &[0; 4], b"\xe2\x82\0A\0\0\0\0", &[0; 8]), 64), Ok(1));
+    assert_eq!(replaced(RUN, 64), Ok(0));
+}
+
 fn all_marks() {
     assert_eq!(marks(RUN, 64), Ok(*b"FFFAAAAAAAAAAA"));
     assert_eq!(marks(&record(36, 32, 100), 32), Ok(*b"BBBBBBBUUUUUUU"));
@@ -104,10 +133,11 @@ fn lists() {
     assert_eq!(list::lines(&[], None), "stopped at 0\n");
 }
 
-const CHECKS: [(&str, fn()); 7] = [
+const CHECKS: [(&str, fn()); 8] = [
     ("take", takes),
     ("text", texts),
     ("aged text", aged_texts),
+    ("replaced", all_replaced),
     ("marks", all_marks),
     ("order", orders),
     ("refusals", refusals),

@@ -2,6 +2,7 @@
 use super::{Call, Question};
 use crate::listed::{held_back, marks, put_age_line, put_record_line, put_stop_line, stop_number, taken, ENDS, MOST};
 use crate::records::{fields, written};
+use crate::replaced::{held_in_record, in_record};
 use crate::subject::ResTableConfig;
 
 /// What a call is to write, whatever it is lent, or the number of a refusal before 5; nothing where it doesn't write.
@@ -56,14 +57,7 @@ fn listed(bytes: &[u8]) -> Result<(), u32> {
 pub fn wanted(call: Call, number: u32, index: u64, offset: u64, bytes: &[u8]) -> Wanted {
     match call {
         Call::Text => Ok(whole(bytes)?.0.as_string().into_bytes()),
-        Call::AgedText => {
-            let (age, (record, amount)) = (age(number)?, whole(bytes)?);
-            // what isn't held back is zero from the age on, so that the plain text is the reader's
-            if held_back(&bytes[..amount], age) {
-                return Err(4);
-            }
-            Ok(record.as_string().into_bytes())
-        }
+        Call::AgedText => Ok(shown(bytes, number)?.as_string().into_bytes()),
         Call::Marks => {
             let (age, (record, amount)) = (age(number)?, whole(bytes)?);
             Ok(marks(&bytes[..amount], record.size as usize, age).to_vec())
@@ -71,7 +65,18 @@ pub fn wanted(call: Call, number: u32, index: u64, offset: u64, bytes: &[u8]) ->
         Call::FirstLine => listed(bytes).and(age(number)).map(first_line),
         Call::Line | Call::Next => listed(bytes).and(age(number)).map(|age| line(bytes, age, index, offset).0),
         Call::Write => rewritten(bytes, number),
-        Call::Take | Call::Order | Call::Walk | Call::Records => Ok(vec![]),
+        Call::Take | Call::Replaced | Call::Order | Call::Walk | Call::Records => Ok(vec![]),
+    }
+}
+
+/// The record at the front of some bytes where a reader of an age is shown its text: what isn't held back is zero from the age on, so
+/// that the plain text is the reader's.
+fn shown(bytes: &[u8], number: u32) -> Result<ResTableConfig, u32> {
+    let (age, (record, amount)) = (age(number)?, whole(bytes)?);
+    if held_back(&bytes[..amount], age) {
+        Err(4)
+    } else {
+        Ok(record)
     }
 }
 
@@ -126,6 +131,10 @@ pub fn outcome(question: &Question) -> Outcome {
             Ok((_, amount)) => told(0, amount as u64),
             Err(number) => told(number, 0),
         },
+        Call::Replaced => match shown(first, question.number) {
+            Ok(record) => told(0, held_in_record(&record, &record.as_string()) as u64),
+            Err(number) => told(number, 0),
+        },
         Call::Order => match whole(first).and_then(|(a, _)| Ok(a.cmp(&whole(&question.second)?.0))) {
             Ok(order) => told(0, (order as i64 + 1) as u64),
             Err(number) => told(number, 0),
@@ -137,6 +146,20 @@ pub fn outcome(question: &Question) -> Outcome {
             Outcome { number, answer: if number == 0 { behind() } else { cursor(*index, *offset) }, wrote }
         }
         _ => room_for(question),
+    }
+}
+
+/// How many replacements the text has that a question's call wrote, by itself or in a line, or counted; nothing where there is no text.
+pub fn replacements(question: &Question, outcome: &Outcome) -> Option<usize> {
+    if outcome.number != 0 {
+        return None;
+    }
+    match question.call {
+        Call::Text | Call::AgedText => whole(&question.first).ok().map(|(record, _)| in_record(&record)),
+        Call::Replaced => Some(outcome.answer as usize),
+        // a record's line alone has a sixth item
+        Call::Line | Call::Next => std::str::from_utf8(&outcome.wrote).ok()?.split_whitespace().nth(5)?.parse().ok(),
+        _ => None,
     }
 }
 

@@ -8,6 +8,7 @@ use crate::payloads::{
 };
 use crate::questions::Random;
 use crate::spellings::{real, PLACES, SPELLED};
+use crate::spoilt::{counted_by_hand, SPOILT};
 
 /// How many bytes are lent beside what is to be written.
 #[derive(Clone, Copy, PartialEq)]
@@ -24,7 +25,7 @@ pub enum Room {
 pub const ROOMS: [&str; 6] = ["no buffer", "nothing", "one short", "exact", "longer", "large"];
 
 /// The calls that inputs of any sort go to, those whose answer says most more often.
-const GO_TO: [Call; 16] = [
+const GO_TO: [Call; 19] = [
     Call::Take,
     Call::Text,
     Call::Text,
@@ -32,6 +33,9 @@ const GO_TO: [Call; 16] = [
     Call::AgedText,
     Call::AgedText,
     Call::AgedText,
+    Call::Replaced,
+    Call::Replaced,
+    Call::Replaced,
     Call::Marks,
     Call::Order,
     Call::FirstLine,
@@ -44,7 +48,7 @@ const GO_TO: [Call; 16] = [
 ];
 
 /// Rooms that are large: at the longest text, at the longest line of a listing and of any record, and far past them.
-const LARGE: [usize; 8] = [344, 345, 1066, 1100, 1101, 1102, 2048, 4096];
+const LARGE: [usize; 8] = [344, 345, 1069, 1103, 1104, 1105, 2048, 4096];
 
 /// Ages that are none.
 const NO_AGES: [u32; 18] =
@@ -70,20 +74,27 @@ struct Sort {
 }
 
 /// The sorts.
-static SORTS: [Sort; 12] = [
-    Sort { name: "whole", weight: 150, taken_for: For::Every, make: whole },
-    Sort { name: "damaged", weight: 150, taken_for: For::Every, make: damaged },
+static SORTS: [Sort; 13] = [
+    Sort { name: "whole", weight: 130, taken_for: For::Every, make: whole },
+    Sort { name: "damaged", weight: 130, taken_for: For::Every, make: damaged },
     Sort { name: "every size", weight: 80, taken_for: For::Every, make: every_size },
     Sort { name: "at field ends", weight: 60, taken_for: For::Every, make: around_ends },
     Sort { name: "to 65,536 bytes", weight: 10, taken_for: For::Every, make: tails },
     Sort { name: "cut short", weight: 20, taken_for: For::Every, make: not_there },
-    Sort { name: "every value", weight: 140, taken_for: For::Every, make: |random| all_of(PLACES, random) },
-    Sort { name: "spellings", weight: 140, taken_for: For::Every, make: |random| all_of(SPELLED, random) },
+    Sort { name: "every value", weight: 120, taken_for: For::Every, make: |random| all_of(PLACES, random) },
+    Sort { name: "spellings", weight: 120, taken_for: For::Every, make: |random| all_of(SPELLED, random) },
+    Sort { name: "spoilt", weight: 80, taken_for: For::Every, make: spoilt },
     Sort { name: "pairs", weight: 75, taken_for: For::Pairs, make: |random| all_of(PAIRS, random) },
     Sort { name: "runs", weight: 160, taken_for: For::Every, make: |random| many(20_000, random, run) },
     Sort { name: "runs to 65,536", weight: 10, taken_for: For::Every, make: |random| many(400, random, long_run) },
     Sort { name: "past 65,536", weight: 5, taken_for: For::Lines, make: too_much },
 ];
+
+/// Spoilt locales, those that are counted by hand a hundred times each, so that each goes to every call at many ages.
+fn spoilt(random: &mut Random) -> Vec<Vec<u8>> {
+    let by_hand: Vec<_> = (0..100).flat_map(|_| counted_by_hand(random)).collect();
+    [by_hand, all_of(SPOILT, random)].concat()
+}
 
 /// A record as a run has it: whole but for one in twelve.
 fn of_run(random: &mut Random) -> Vec<u8> {
@@ -198,7 +209,7 @@ pub fn question(random: &mut Random, sort: usize, call: Call, first: Vec<u8>, se
     };
     let wanted = wanted(call, number, index, offset, &first);
     let (room, lent) = match call {
-        Call::Take | Call::Order | Call::Walk | Call::Records => (Room::NotLent, 0),
+        Call::Take | Call::Replaced | Call::Order | Call::Walk | Call::Records => (Room::NotLent, 0),
         _ => room(random, &wanted),
     };
     Question { call, number, index, offset, first, second, lent, room, sort, wanted }

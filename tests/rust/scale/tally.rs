@@ -1,4 +1,5 @@
 //! How many questions there were of each class.
+use super::expected::{replacements, Outcome};
 use super::{inputs::ROOMS, Question, CALLS};
 
 /// What 01's numbers mean.
@@ -12,6 +13,9 @@ const NUMBERS: [&str; 8] = [
     "6 unread field",
     "7 too much input",
 ];
+
+/// How many replacements a text has, each row with its least; 24 are the most.
+const REPLACEMENTS: [(&str, usize); 4] = [("none", 0), ("1", 1), ("2 to 23", 2), ("24", 24)];
 
 /// Counts by call: a row of them to each class.
 struct Table {
@@ -35,12 +39,13 @@ impl Table {
     }
 }
 
-/// The questions so far: by sort of input, by what was lent, and by 01's number.
+/// The questions so far: by sort of input, by what was lent, and by 01's number; and those that came to a text, by its replacements.
 pub struct Tally {
     pub count: u64,
     sorts: Table,
     rooms: Table,
     numbers: Table,
+    replacements: Table,
 }
 
 impl Tally {
@@ -50,31 +55,41 @@ impl Tally {
             sorts: Table::new("input", &sorts),
             rooms: Table::new("lent", &ROOMS),
             numbers: Table::new("number", &NUMBERS),
+            replacements: Table::new("replacements", &REPLACEMENTS.map(|(name, _)| name)),
         }
     }
 
-    /// Counts a question with the number that it came to.
-    pub fn add(&mut self, question: &Question, number: u32) {
+    /// Counts a question with what it came to.
+    pub fn add(&mut self, question: &Question, outcome: &Outcome) {
         let call = question.call as usize;
         self.count += 1;
         self.sorts.rows[question.sort].1[call] += 1;
         self.rooms.rows[question.room as usize].1[call] += 1;
-        self.numbers.rows[number as usize].1[call] += 1;
+        self.numbers.rows[outcome.number as usize].1[call] += 1;
+        if let Some(count) = replacements(question, outcome) {
+            let row = REPLACEMENTS.iter().rposition(|(_, least)| *least <= count).unwrap_or(0);
+            self.replacements.rows[row].1[call] += 1;
+        }
     }
 
-    /// Prints what was counted. It fails where another number of questions was asked, or where one of the refusals has none.
+    /// Prints what was counted. It fails where another number of questions was asked, where one of 01's numbers has none, and where no text
+    /// has replacements.
     pub fn ended(&self, asked: u64) -> Result<(), String> {
         if asked != self.count {
             return Err(format!("{asked} questions were asked and {} answered", self.count));
         }
-        for table in [&self.sorts, &self.rooms, &self.numbers] {
+        for table in [&self.sorts, &self.rooms, &self.numbers, &self.replacements] {
             table.print();
         }
         if let Some((missing, _)) = self.numbers.rows.iter().find(|(_, counts)| counts.iter().sum::<u64>() == 0) {
             return Err(format!("no question came to {missing}"));
         }
+        let replaced: u64 = self.replacements.rows[1..].iter().flat_map(|(_, counts)| counts).sum();
+        if replaced == 0 {
+            return Err("no text has replacements".into());
+        }
         println!(
-            "{} questions: every answer and every lent byte as expected, every guard and input as it was",
+            "{} questions, {replaced} on texts with replacements: every answer and every lent byte as expected, every guard and input as it was",
             self.count
         );
         Ok(())
