@@ -3,6 +3,8 @@
 //! `main` is C's: the kit's emulator can't bear Rust's own start-up.
 #![no_main]
 
+#[path = "../tests/rust/cut.rs"]
+mod cut;
 #[path = "../tests/rust/listed.rs"]
 #[allow(dead_code)]
 mod listed;

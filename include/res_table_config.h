@@ -2,8 +2,9 @@
  * Resource configuration records of Android packages: six calls on numbers and bytes. Link libres_table_config.a, which
  * `rt staticlib res_table_config` writes to target/staticlib/ (x86-64 Linux).
  *
- * Answers. Each call answers one number: a refusal's number in the upper 32 bits, 0 for a success, and an amount in the lower
- * 32 bits, 0 for a refusal. Refusals are tested in the order 3, 1, 2, 4, 5, as far as each can come.
+ * Answers. Each call answers one number: a refusal's number in the upper 32 bits, 0 for a success. The lower 32 bits hold a
+ * success's amount, or what the refusal carries: 2 carries the row of a field, the others carry 0. Refusals are tested in the order
+ * 3, 1, 2 and 8, 4, 5, as far as each can come; 2 and 8 stand at one place, since at most one of them holds.
  *
  * Buffers. A pointer and the length behind it name that many bytes, from one object, and the pointer isn't null, also where the
  * length is 0. A success writes from the front of out and leaves the bytes behind what it wrote as they were. A refusal writes
@@ -22,21 +23,25 @@
 extern "C" {
 #endif
 
-/* Why a call is refused. The calls of this header give 1 to 5. */
+/* Why a call is refused. The calls of this header give 1 to 5, and 8. */
 enum res_table_config_refusal {
-    RES_TABLE_CONFIG_FEWER_THAN_16 = 1,   /* there are fewer than 16 bytes */
-    RES_TABLE_CONFIG_FEWER_THAN_SIZE = 2, /* 16 bytes or more, fewer than the record's size */
-    RES_TABLE_CONFIG_NOT_AN_AGE = 3,      /* none of 16 20 24 28 32 36 40 48 52 53 61 64 */
-    RES_TABLE_CONFIG_HELD_BACK = 4,       /* a byte of the record at offset age or later isn't zero */
-    RES_TABLE_CONFIG_SHORT_BUFFER = 5,    /* out is shorter than what is to be written */
-    RES_TABLE_CONFIG_UNREAD_FIELD = 6,    /* writer: a field that isn't read at the record's size isn't zero */
-    RES_TABLE_CONFIG_TOO_MUCH_INPUT = 7   /* listing: more than 65,536 bytes of input */
+    RES_TABLE_CONFIG_FEWER_THAN_16 = 1,  /* there are fewer than 16 bytes */
+    RES_TABLE_CONFIG_FIELD_CUT = 2,      /* 16 bytes or more, fewer than the record's size, and a field that the size holds ends past
+                                            them: carries the row of the first such field, from 4 to 14 */
+    RES_TABLE_CONFIG_NOT_AN_AGE = 3,     /* none of 16 20 24 28 32 36 40 48 52 53 61 64 */
+    RES_TABLE_CONFIG_HELD_BACK = 4,      /* a byte of the record at offset age or later isn't zero */
+    RES_TABLE_CONFIG_SHORT_BUFFER = 5,   /* out is shorter than what is to be written */
+    RES_TABLE_CONFIG_UNREAD_FIELD = 6,   /* writer: a field that isn't read at the record's size isn't zero */
+    RES_TABLE_CONFIG_TOO_MUCH_INPUT = 7, /* listing: more than 65,536 bytes of input */
+    RES_TABLE_CONFIG_UNDECODED_CUT = 8   /* 16 bytes or more, fewer than the record's size, and every field that the size holds is
+                                            there: only undecoded bytes are lacking */
 };
 
-/* How many bytes the longest text has, and how many marks there are. */
+/* How many bytes the longest text has, how many marks there are, and how many fields, whose rows count from 0. */
 enum {
     RES_TABLE_CONFIG_TEXT_MOST = 344,
-    RES_TABLE_CONFIG_MARKS = 14
+    RES_TABLE_CONFIG_MARKS = 14,
+    RES_TABLE_CONFIG_FIELDS = 15
 };
 
 /* The amounts of res_table_config_order. */
@@ -53,27 +58,56 @@ static inline uint32_t res_table_config_number(uint64_t answer) {
 
 /* The amount of an answer: 0 for a refusal. */
 static inline uint32_t res_table_config_amount(uint64_t answer) {
-    return (uint32_t)(answer & 0xffffffffu);
+    return res_table_config_number(answer) == 0 ? (uint32_t)(answer & 0xffffffffu) : 0;
 }
 
-/* How many bytes the record at the front of bytes takes. Refusals 1, 2. */
+/* What a refusal carries beside its number: the row of a cut field for RES_TABLE_CONFIG_FIELD_CUT, and 0 for the other refusals and
+   for a success. */
+static inline uint32_t res_table_config_carried(uint64_t answer) {
+    return res_table_config_number(answer) == 0 ? 0 : (uint32_t)(answer & 0xffffffffu);
+}
+
+/* The name of the field of a row, the rows in the order of the fields' offsets; "" for a number that is no row. So a refusal that
+   carries 10 reads "cut inside field 10, locale_variant". */
+static inline const char *res_table_config_field(uint32_t row) {
+    static const char *const names[RES_TABLE_CONFIG_FIELDS] = {
+        "size",                       /* 0: bytes 0 to 3 */
+        "imsi",                       /* 1: 4 to 7 */
+        "locale",                     /* 2: 8 to 11 */
+        "screen_type",                /* 3: 12 to 15 */
+        "generic_purpose_field",      /* 4: 16 to 19 */
+        "screen_size",                /* 5: 20 to 23 */
+        "version",                    /* 6: 24 to 27 */
+        "screen_config",              /* 7: 28 to 31 */
+        "screen_size_dp",             /* 8: 32 to 35 */
+        "locale_script",              /* 9: 36 to 39 */
+        "locale_variant",             /* 10: 40 to 47 */
+        "screen_config_2",            /* 11: 48 to 51 */
+        "locale_script_was_computed", /* 12: 52 */
+        "locale_numbering_system",    /* 13: 53 to 60 */
+        "end_padding",                /* 14: 61 to 63 */
+    };
+    return row < RES_TABLE_CONFIG_FIELDS ? names[row] : "";
+}
+
+/* How many bytes the record at the front of bytes takes. Refusals 1, 2, 8. */
 uint64_t res_table_config_take(const uint8_t *bytes, size_t len);
 
-/* Writes the record's text; the amount is its length. Refusals 1, 2, 5. */
+/* Writes the record's text; the amount is its length. Refusals 1, 2, 8, 5. */
 uint64_t res_table_config_text(const uint8_t *bytes, size_t len, uint8_t *out, size_t cap);
 
-/* Writes the record's text for a reader of an age; the amount is its length. Refusals 3, 1, 2, 4, 5. */
+/* Writes the record's text for a reader of an age; the amount is its length. Refusals 3, 1, 2, 8, 4, 5. */
 uint64_t res_table_config_aged_text(const uint8_t *bytes, size_t len, uint32_t age, uint8_t *out, size_t cap);
 
 /* How many replacements the record's text for a reader of an age has: how often EF BF BD stands in it for bytes that are no UTF-8. One
-   that the record itself has isn't counted. Refusals 3, 1, 2, 4. */
+   that the record itself has isn't counted. Refusals 3, 1, 2, 8, 4. */
 uint64_t res_table_config_replaced(const uint8_t *bytes, size_t len, uint32_t age);
 
 /* Writes a letter for each field after size, in field order: U past the age, A absent, B blank, F filled. The amount is 14.
-   Refusals 3, 1, 2, 5. */
+   Refusals 3, 1, 2, 8, 5. */
 uint64_t res_table_config_marks(const uint8_t *bytes, size_t len, uint32_t age, uint8_t *out, size_t cap);
 
-/* How the record at the front of a stands to the one at the front of b. Refusals 1, 2 of a, then 1, 2 of b. */
+/* How the record at the front of a stands to the one at the front of b. Refusals 1, 2, 8 of a, then 1, 2, 8 of b. */
 uint64_t res_table_config_order(const uint8_t *a, size_t a_len, const uint8_t *b, size_t b_len);
 
 #ifdef __cplusplus

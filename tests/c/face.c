@@ -53,11 +53,17 @@ static int untouched(size_t from) {
     return 1;
 }
 
-/* Whether an answer is a refusal with this number, and out is as it was. */
-static int refused(uint64_t answer, uint32_t number) {
-    int holds = res_table_config_number(answer) == number && res_table_config_amount(answer) == 0 && untouched(0);
+/* Whether an answer is a refusal with this number that carries this, and out is as it was. */
+static int carries(uint64_t answer, uint32_t number, uint32_t carried) {
+    int holds = res_table_config_number(answer) == number && res_table_config_carried(answer) == carried;
+    holds = holds && res_table_config_amount(answer) == 0 && untouched(0);
     fill();
     return holds;
+}
+
+/* Whether an answer is a refusal with this number that carries nothing, and out is as it was. */
+static int refused(uint64_t answer, uint32_t number) {
+    return carries(answer, number, 0);
 }
 
 /* Whether an answer is a success that wrote a word and no byte behind it. */
@@ -84,11 +90,12 @@ static void take(void) {
     CHECK(refused(res_table_config_take(ZEROS, 15), RES_TABLE_CONFIG_FEWER_THAN_16));
     CHECK(res_table_config_take(ZEROS, 16) == 16);
     CHECK(res_table_config_take(ZEROS, 40) == 16);
-    CHECK(refused(res_table_config_take(bytes, 16), RES_TABLE_CONFIG_FEWER_THAN_SIZE));
+    CHECK(refused(res_table_config_take(bytes, 16), RES_TABLE_CONFIG_UNDECODED_CUT));
     CHECK(res_table_config_take(bytes, 17) == 17);
     CHECK(res_table_config_take(bytes, 80) == 17);
     bytes[3] = 255;
-    CHECK(refused(res_table_config_take(bytes, 80), RES_TABLE_CONFIG_FEWER_THAN_SIZE));
+    CHECK(refused(res_table_config_take(bytes, 80), RES_TABLE_CONFIG_UNDECODED_CUT));
+    CHECK(carries(res_table_config_take(bytes, 40), RES_TABLE_CONFIG_FIELD_CUT, 10));
     ended("take");
 }
 
@@ -99,7 +106,7 @@ static void text(void) {
     CHECK(refused(res_table_config_text(PHONE, 16, out, 22), RES_TABLE_CONFIG_SHORT_BUFFER));
     CHECK(refused(res_table_config_text(PHONE, 16, out, 0), RES_TABLE_CONFIG_SHORT_BUFFER));
     CHECK(refused(res_table_config_text(PHONE, 15, out, ROOM), RES_TABLE_CONFIG_FEWER_THAN_16));
-    CHECK(refused(res_table_config_text(LONGEST, 63, out, 0), RES_TABLE_CONFIG_FEWER_THAN_SIZE));
+    CHECK(carries(res_table_config_text(LONGEST, 63, out, 0), RES_TABLE_CONFIG_FIELD_CUT, 14));
     CHECK(wrote(res_table_config_text(ZEROS, 16, out, 0), ""));
     CHECK(res_table_config_text(LONGEST, 64, out, RES_TABLE_CONFIG_TEXT_MOST) == 344 && out[343] != GUARD && untouched(344));
     fill();
@@ -115,7 +122,7 @@ static void aged_text(void) {
     CHECK(refused(res_table_config_aged_text(ZEROS, 0, 33, out, 0), RES_TABLE_CONFIG_NOT_AN_AGE));
     CHECK(refused(res_table_config_aged_text(ZEROS, 16, 0, out, ROOM), RES_TABLE_CONFIG_NOT_AN_AGE));
     CHECK(refused(res_table_config_aged_text(ZEROS, 15, 64, out, ROOM), RES_TABLE_CONFIG_FEWER_THAN_16));
-    CHECK(refused(res_table_config_aged_text(bytes, 35, 32, out, ROOM), RES_TABLE_CONFIG_FEWER_THAN_SIZE));
+    CHECK(carries(res_table_config_aged_text(bytes, 35, 32, out, ROOM), RES_TABLE_CONFIG_FIELD_CUT, 8));
     CHECK(refused(res_table_config_aged_text(bytes, 36, 32, out, 0), RES_TABLE_CONFIG_HELD_BACK));
     CHECK(refused(res_table_config_aged_text(bytes, 36, 36, out, 5), RES_TABLE_CONFIG_SHORT_BUFFER));
     CHECK(wrote(res_table_config_aged_text(bytes, 36, 36, out, 6), "w100dp"));
@@ -155,7 +162,7 @@ static void replaced(void) {
     CHECK(refused(res_table_config_replaced(LONGEST, 63, 33), RES_TABLE_CONFIG_NOT_AN_AGE));
     CHECK(refused(res_table_config_replaced(LONGEST, 64, 33), RES_TABLE_CONFIG_NOT_AN_AGE));
     CHECK(refused(res_table_config_replaced(LONGEST, 15, 61), RES_TABLE_CONFIG_FEWER_THAN_16));
-    CHECK(refused(res_table_config_replaced(LONGEST, 63, 53), RES_TABLE_CONFIG_FEWER_THAN_SIZE));
+    CHECK(carries(res_table_config_replaced(LONGEST, 63, 53), RES_TABLE_CONFIG_FIELD_CUT, 14));
     CHECK(refused(res_table_config_replaced(LONGEST, 64, 53), RES_TABLE_CONFIG_HELD_BACK));
     CHECK(res_table_config_replaced(LONGEST, 64, 61) == 24);
     ended("replaced");
@@ -171,7 +178,7 @@ static void marks(void) {
     CHECK(refused(res_table_config_marks(PHONE, 16, 64, out, 13), RES_TABLE_CONFIG_SHORT_BUFFER));
     CHECK(refused(res_table_config_marks(ZEROS, 0, 65, out, 0), RES_TABLE_CONFIG_NOT_AN_AGE));
     CHECK(refused(res_table_config_marks(ZEROS, 15, 64, out, 0), RES_TABLE_CONFIG_FEWER_THAN_16));
-    CHECK(refused(res_table_config_marks(bytes, 35, 64, out, 0), RES_TABLE_CONFIG_FEWER_THAN_SIZE));
+    CHECK(carries(res_table_config_marks(bytes, 35, 64, out, 0), RES_TABLE_CONFIG_FIELD_CUT, 8));
     ended("marks");
 }
 
@@ -185,18 +192,66 @@ static void order(void) {
     CHECK(res_table_config_order(PHONE, 16, ZEROS, 16) == RES_TABLE_CONFIG_GREATER);
     CHECK(res_table_config_order(mcc, 16, mnc, 20) == RES_TABLE_CONFIG_LESS);
     CHECK(res_table_config_order(ZEROS, 16, cut, 17) == RES_TABLE_CONFIG_EQUAL);
-    CHECK(refused(res_table_config_order(cut, 16, ZEROS, 15), RES_TABLE_CONFIG_FEWER_THAN_SIZE));
+    CHECK(refused(res_table_config_order(cut, 16, ZEROS, 15), RES_TABLE_CONFIG_UNDECODED_CUT));
     CHECK(refused(res_table_config_order(ZEROS, 15, cut, 16), RES_TABLE_CONFIG_FEWER_THAN_16));
-    CHECK(refused(res_table_config_order(PHONE, 16, cut, 16), RES_TABLE_CONFIG_FEWER_THAN_SIZE));
+    CHECK(refused(res_table_config_order(PHONE, 16, cut, 16), RES_TABLE_CONFIG_UNDECODED_CUT));
     CHECK(refused(res_table_config_order(PHONE, 16, ZEROS, 0), RES_TABLE_CONFIG_FEWER_THAN_16));
     ended("order");
+}
+
+/* Records that aren't whole, worked out by hand from 01's table: a size, how many bytes there are, the number and the row. */
+static const struct {
+    uint8_t size, length;
+    uint32_t number, row;
+} CUTS[] = {
+    /* no field is held behind the first sixteen bytes, or none that isn't there */
+    {17, 16, 8, 0}, {19, 16, 8, 0}, {23, 20, 8, 0}, {39, 36, 8, 0}, {47, 40, 8, 0}, {60, 53, 8, 0}, {63, 61, 8, 0}, {65, 64, 8, 0},
+    {255, 64, 8, 0}, {255, 79, 8, 0},
+    /* each field, with none of its bytes or all but one; of several the first */
+    {20, 16, 2, 4}, {20, 19, 2, 4}, {64, 16, 2, 4}, {24, 20, 2, 5}, {24, 23, 2, 5}, {255, 20, 2, 5}, {28, 24, 2, 6}, {32, 31, 2, 7},
+    {36, 32, 2, 8}, {40, 39, 2, 9}, {48, 40, 2, 10}, {64, 40, 2, 10}, {64, 47, 2, 10}, {52, 48, 2, 11}, {53, 52, 2, 12}, {61, 53, 2, 13},
+    {64, 60, 2, 13}, {64, 61, 2, 14}, {64, 63, 2, 14}, {65, 63, 2, 14}};
+
+static const uint32_t AGES[] = {16, 20, 24, 28, 32, 36, 40, 48, 52, 53, 61, 64};
+
+/* Every call on each of these, at every age: nothing that comes later in the order, a buffer of no bytes among it, is told instead. */
+static void cut(void) {
+    uint8_t bytes[80];
+    for (size_t i = 0; i < sizeof CUTS / sizeof *CUTS; i++) {
+        uint32_t number = CUTS[i].number, row = CUTS[i].row;
+        size_t length = CUTS[i].length;
+        record(bytes, CUTS[i].size, length - 1, 1);
+        CHECK(carries(res_table_config_take(bytes, length), number, row));
+        CHECK(carries(res_table_config_text(bytes, length, out, 0), number, row));
+        CHECK(carries(res_table_config_order(bytes, length, ZEROS, 15), number, row));
+        CHECK(carries(res_table_config_order(bytes, length, LONGEST, 63), number, row));
+        CHECK(carries(res_table_config_order(ZEROS, 16, bytes, length), number, row));
+        CHECK(refused(res_table_config_order(ZEROS, 15, bytes, length), RES_TABLE_CONFIG_FEWER_THAN_16));
+        for (size_t j = 0; j < sizeof AGES / sizeof *AGES; j++) {
+            CHECK(carries(res_table_config_aged_text(bytes, length, AGES[j], out, 0), number, row));
+            CHECK(carries(res_table_config_replaced(bytes, length, AGES[j]), number, row));
+            CHECK(carries(res_table_config_marks(bytes, length, AGES[j], out, 0), number, row));
+        }
+        CHECK(refused(res_table_config_aged_text(bytes, length, 63, out, 0), RES_TABLE_CONFIG_NOT_AN_AGE));
+    }
+    ended("cut");
+}
+
+/* Whether two words are the same. */
+static int same(const char *a, const char *b) {
+    while (*a && *a == *b) a++, b++;
+    return *a == *b;
 }
 
 static void header(void) {
     uint64_t answer = ((uint64_t)7 << 32) + 0xfffffff9u;
     CHECK(res_table_config_number(answer) == RES_TABLE_CONFIG_TOO_MUCH_INPUT);
-    CHECK(res_table_config_amount(answer) == 0xfffffff9u);
+    CHECK(res_table_config_carried(answer) == 0xfffffff9u && res_table_config_amount(answer) == 0);
+    CHECK(res_table_config_amount(0xfffffff9u) == 0xfffffff9u && res_table_config_carried(0xfffffff9u) == 0);
     CHECK(RES_TABLE_CONFIG_UNREAD_FIELD == 6 && RES_TABLE_CONFIG_MARKS == 14);
+    CHECK(same(res_table_config_field(0), "size") && same(res_table_config_field(8), "screen_size_dp"));
+    CHECK(same(res_table_config_field(10), "locale_variant") && same(res_table_config_field(14), "end_padding"));
+    CHECK(same(res_table_config_field(15), "") && same(res_table_config_field(0xffffffffu), ""));
     ended("header");
 }
 
@@ -208,6 +263,7 @@ int main(void) {
     replaced();
     marks();
     order();
+    cut();
     header();
     checks = face_from_cpp(&failures);
     ended("C++");

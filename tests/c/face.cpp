@@ -7,6 +7,9 @@ static const uint8_t SWEDISH[16] = {16, 0, 0, 0, 0, 0, 0, 0, 's', 'v'};
 // The same with a byte for its second letter that is none.
 static const uint8_t DAMAGED[16] = {16, 0, 0, 0, 0, 0, 0, 0, 's', 0xff};
 
+// A record of 64 bytes, of which there are 16: its field 4 is the first that is cut.
+static const uint8_t CUT[16] = {64, 0, 0, 0, 0, 0, 0, 0, 's', 'v'};
+
 // Each call once: whether the answer is the right one.
 extern "C" int face_from_cpp(int *failed) {
     uint8_t text[RES_TABLE_CONFIG_TEXT_MOST] = {};
@@ -20,6 +23,8 @@ extern "C" int face_from_cpp(int *failed) {
         res_table_config_marks(SWEDISH, sizeof SWEDISH, 16, marks, sizeof marks) == 14 && marks[1] == 'F',
         res_table_config_order(SWEDISH, sizeof SWEDISH, SWEDISH, sizeof SWEDISH) == RES_TABLE_CONFIG_EQUAL,
         res_table_config_number(res_table_config_take(SWEDISH, 15)) == RES_TABLE_CONFIG_FEWER_THAN_16,
+        res_table_config_number(res_table_config_take(CUT, sizeof CUT)) == RES_TABLE_CONFIG_FIELD_CUT,
+        res_table_config_field(res_table_config_carried(res_table_config_take(CUT, sizeof CUT)))[0] == 'g',
     };
     int count = 0;
     for (bool one : holds) {

@@ -23,9 +23,11 @@ uint64_t probe_line(const uint8_t *bytes, size_t len, uint32_t age, size_t index
 uint64_t probe_next(const uint8_t *bytes, size_t len, uint32_t age, size_t index, size_t offset, uint8_t *out, size_t cap);
 uint64_t probe_walk(const uint8_t *bytes, size_t len, size_t offset);
 size_t probe_records(const uint8_t *bytes, size_t len, size_t offset);
+size_t probe_row(const uint8_t *bytes, size_t len, size_t offset);
+uint64_t probe_record_line(const uint8_t *bytes, size_t len, uint32_t age, size_t index, size_t offset, uint8_t *out, size_t cap);
 uint64_t probe_write(const uint8_t *bytes, size_t len, uint32_t size, uint8_t *out, size_t cap);
 
-enum { TAKE, TEXT, AGED_TEXT, REPLACED, MARKS, ORDER, FIRST_LINE, LINE, NEXT, WALK, RECORDS, WRITE, END = 255 };
+enum { TAKE, TEXT, AGED_TEXT, REPLACED, MARKS, ORDER, FIRST_LINE, LINE, NEXT, WALK, RECORDS, WRITE, ROW, RECORD_LINE, END = 255 };
 
 #define HEADER 33
 #define ANSWER 13
@@ -136,7 +138,9 @@ static uint64_t call(const struct question *q, const uint8_t *a, const uint8_t *
     case NEXT: return probe_next(a, length, q->number, q->index, q->offset, to, lent);
     case WALK: return probe_walk(a, length, q->offset);
     case RECORDS: return probe_records(a, length, q->offset);
-    default: return probe_write(a, length, q->number, to, lent);
+    case WRITE: return probe_write(a, length, q->number, to, lent);
+    case ROW: return probe_row(a, length, q->offset);
+    default: return probe_record_line(a, length, q->number, q->index, q->offset, to, lent);
     }
 }
 
@@ -162,7 +166,7 @@ int main(void) {
     for (size_t i = 0; i < AREA; i++) nobodys[i] = (uint8_t)(0xf5 + i % TURN);
     for (uint64_t count = 0; asked(&q); count++) {
         if (q.tag == END) return !(answered(END, count, in, 0) && flush());
-        if (q.tag > WRITE || !answer(&q, count % TURN)) return 1;
+        if (q.tag > RECORD_LINE || !answer(&q, count % TURN)) return 1;
     }
     return 1;
 }

@@ -1,14 +1,12 @@
 //! 01's listing of a run, line by line by 01's rules, over what 000 parses and says. The comparison takes it for what is right, and
 //! the benchmark for what a listing costs in Rust.
+use crate::cut::{refused, Refused, ENDS};
 use crate::replaced;
 use crate::subject::{reach, ResTableConfig};
 use std::io::{Result, Write};
 
 /// The most bytes that a listing takes.
 pub const MOST: usize = 65_536;
-
-/// Where each of the fifteen fields ends; it starts where the one before it ends.
-pub const ENDS: [usize; 15] = [4, 8, 12, 16, 20, 24, 28, 32, 36, 40, 48, 52, 53, 61, 64];
 
 /// The listing of some bytes at an age.
 pub fn listing(bytes: &[u8], age: usize) -> Result<Vec<u8>> {
@@ -49,18 +47,20 @@ pub fn put_record_line(out: &mut Vec<u8>, bytes: &[u8], age: usize, index: usize
     Ok(Some(amount))
 }
 
-/// Appends the last line, of a run that stops at an offset.
+/// Appends the last line, of a run that stops at an offset: its number, and with 2 the row.
 pub fn put_stop_line(out: &mut Vec<u8>, bytes: &[u8], offset: usize) -> Result<()> {
-    writeln!(out, "stop {offset} {}", stop_number(bytes, offset))
+    match stop(bytes, offset) {
+        Refused { number: 2, carried } => writeln!(out, "stop {offset} 2 {carried}"),
+        Refused { number, .. } => writeln!(out, "stop {offset} {number}"),
+    }
 }
 
-/// The number with which a run stops at an offset where no record stands whole: 0 at the exact end, and 1 past it.
-pub fn stop_number(bytes: &[u8], offset: usize) -> u32 {
-    match bytes.len().checked_sub(offset) {
-        Some(0) => 0,
-        None | Some(1..=15) => 1,
-        _ => 2,
+/// Why a run stops at an offset where no record stands whole: 0 at the exact end, and 1 past it.
+pub fn stop(bytes: &[u8], offset: usize) -> Refused {
+    if offset == bytes.len() {
+        return Refused::with(0);
     }
+    refused(bytes.get(offset..).unwrap_or(&[])).expect("no record stands whole there")
 }
 
 /// The record at the front of some bytes, and how many of them the Rust took for it.

@@ -14,6 +14,8 @@ pub fn runs(random: &mut Random, count: usize) -> Vec<Vec<u8>> {
         runs.push(declared(random, size, size.max(16) + 5));
         runs.push(declared(random, size, size.max(16) - 1));
     }
+    // one size at each length that is too short for it: cut in each field, then behind the last
+    runs.extend((16..65).map(|length| declared(random, 65, length)));
     let tail = |size: usize, at: usize| {
         let mut bytes = record(&mut Random(1), size);
         bytes[64..].fill(0);

@@ -1,5 +1,5 @@
 //! What the questions on records are asked about: makers of payloads, and what the full run and the fixed list take of them.
-pub use crate::listed::ENDS;
+pub use crate::cut::ENDS;
 use crate::questions::Random;
 use std::ops::Range;
 
@@ -140,9 +140,22 @@ pub fn broken(random: &mut Random) -> Vec<u8> {
     bytes
 }
 
-/// Every size to 80 at every length to 96.
+/// Sizes with lengths, in sorts: every size to 130 at every length to 130, sizes around 65,536 and the last below 2^32 at these lengths
+/// too, and such sizes at lengths around 65,536.
+pub fn sizes_at_lengths() -> [(&'static str, Vec<(usize, usize)>); 4] {
+    let few = |sizes: Range<usize>| sizes.flat_map(|size| (0..=130).map(move |length| (size, length))).collect();
+    let long = (65_533..65_540).chain([(1 << 32) - 2, (1 << 32) - 1]);
+    [
+        ("size to 130", few(0..131)),
+        ("size near 65,536", few(65_528..65_545)),
+        ("size near 2^32", few((1 << 32) - 17..1 << 32)),
+        ("length near 65,536", long.flat_map(|size| (65_533..65_540).map(move |length| (size, length))).collect()),
+    ]
+}
+
+/// Each of these sizes at each of its lengths.
 pub fn every_size(random: &mut Random) -> Vec<Vec<u8>> {
-    let pairs = (0..=80).flat_map(|size| (0..=96).map(move |length| (size, length)));
+    let pairs = sizes_at_lengths().into_iter().flat_map(|(_, pairs)| pairs);
     pairs.map(|(size, length)| declared(random, size, length)).collect()
 }
 

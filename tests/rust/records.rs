@@ -1,20 +1,25 @@
 //! The questions on records: reading, the accessors, a new density, equality and order, and what the writer gives back.
-use crate::listed::taken;
-use crate::payloads::{all_of, few_of, parts, ACCESSED, DENSITIES, ENDS, PAIRS, RECORDS};
-use crate::questions::Asked;
-use crate::runs::{HELD_BACK, MARKS_AT, READ_AT, SOUGHT, STEP_AT, TEXT_AT};
+use crate::cut::Refused;
+use crate::payloads::{
+    all_of, declared, few_of, many, one, parts, sizes_at_lengths, usual, Maker, ACCESSED, DENSITIES, ENDS, PAIRS,
+    RECORDS,
+};
+use crate::questions::{Asked, Random};
+use crate::runs::{HELD_BACK, MARKS_AT, READ_AT, SOUGHT, STEP_AT, TEXT_AT, WALK};
+use crate::scale::expected::{age, whole};
+use crate::scale::inputs::any_age;
 use crate::subject::*;
 use std::cmp::Ordering;
 
-/// The kinds of question of this file, and those on an offset of a run. Bytes that hold no whole record are answered by `REFUSED`
-/// alone, but for the latter.
+/// The kinds of question of this file, and those on an offset of a run. Bytes that hold no whole record are answered by `refused`, but where
+/// an answer begins with what the call tells.
 pub const ASKED: &[Asked] = &[
     Asked {
         tag: 32,
         name: "parse",
         full: |random| all_of(RECORDS, random),
         fixed: || few_of(RECORDS, 14),
-        answer: |bytes| told(taken(bytes).map(|(record, amount)| parsed(&record, amount))),
+        answer: |bytes| parsed(whole(bytes), 64),
         replacements_at: None,
     },
     Asked {
@@ -22,7 +27,7 @@ pub const ASKED: &[Asked] = &[
         name: "accessors",
         full: |random| all_of(ACCESSED, random),
         fixed: || few_of(ACCESSED, 16),
-        answer: |bytes| told(taken(bytes).map(|(record, _)| accessed(&record))),
+        answer: |bytes| answered(whole(bytes).map(|(record, _)| accessed(&record))),
         replacements_at: None,
     },
     Asked {
@@ -33,7 +38,7 @@ pub const ASKED: &[Asked] = &[
         answer: |payload| {
             let (density, bytes) = payload.split_at(2);
             let density = Density::from(u16::from_le_bytes([density[0], density[1]]));
-            told(taken(bytes).map(|(mut record, _)| {
+            answered(whole(bytes).map(|(mut record, _)| {
                 record.set_density(density);
                 fields(&record)
             }))
@@ -47,7 +52,7 @@ pub const ASKED: &[Asked] = &[
         fixed: || few_of(PAIRS, 13),
         answer: |payload| {
             let (first, second) = parts(payload);
-            told(taken(first).zip(taken(second)).map(|((a, _), (b, _))| compared(&a, &b)))
+            answered(whole(first).and_then(|(a, _)| Ok(compared(&a, &whole(second)?.0))))
         },
         replacements_at: None,
     },
@@ -56,7 +61,7 @@ pub const ASKED: &[Asked] = &[
         name: "written back",
         full: |random| all_of(RECORDS, random),
         fixed: || few_of(RECORDS, 4),
-        answer: |bytes| told(taken(bytes).map(|(record, _)| written(&record))),
+        answer: |bytes| answered(whole(bytes).map(|(record, _)| written(&record))),
         replacements_at: None,
     },
     STEP_AT,
@@ -65,22 +70,76 @@ pub const ASKED: &[Asked] = &[
     HELD_BACK,
     TEXT_AT,
     MARKS_AT,
+    Asked {
+        tag: 43,
+        name: "take",
+        full: |random| all_of(RECORDS, random),
+        fixed: || few_of(RECORDS, 14),
+        answer: |bytes| told(whole(bytes).map(|(_, amount)| amount)),
+        replacements_at: None,
+    },
+    Asked {
+        tag: 44,
+        name: "parse_aged",
+        full: |random| all_of(AGED, random),
+        fixed: || few_of(AGED, 28),
+        answer: |payload| {
+            let (number, bytes) = payload.split_first_chunk().expect("four bytes");
+            let age = age(u32::from_le_bytes(*number));
+            parsed(age.and_then(|_| whole(bytes)), age.unwrap_or(0))
+        },
+        replacements_at: None,
+    },
+    WALK,
 ];
 
-/// The answer where there is no whole record: the Rust has one error, and not 01's 1 and 2.
-const REFUSED: u8 = 0xff;
+/// An age in four bytes, then a record.
+const AGED: &[Maker] = &[every_size_at_every_age, records_at_ages];
 
-/// An answer, or the refusal.
-pub fn told(answer: Option<Vec<u8>>) -> Vec<u8> {
-    answer.unwrap_or(vec![REFUSED])
+/// Every size at every length, where both are small at every age, else at one.
+fn every_size_at_every_age(random: &mut Random) -> Vec<Vec<u8>> {
+    let asked = at_every_age(random);
+    asked
+        .into_iter()
+        .map(|(age, size, length)| [&age.to_le_bytes()[..], &declared(random, size, length)].concat())
+        .collect()
 }
 
-/// The answer on a record that was taken: 0, the amount in eight bytes, the fields.
-fn parsed(record: &ResTableConfig, amount: usize) -> Vec<u8> {
-    let mut answer = vec![0];
-    answer.extend((amount as u64).to_le_bytes());
-    answer.extend(fields(record));
-    answer
+/// Each age with each size and length that is asked about where both are to 130, else one of the ages.
+pub fn at_every_age(random: &mut Random) -> Vec<(u32, usize, usize)> {
+    let [small, others @ ..] = sizes_at_lengths().map(|(_, pairs)| pairs);
+    let ages = || ENDS[3..].iter().map(|age| *age as u32);
+    let mut asked: Vec<_> =
+        small.into_iter().flat_map(|(size, length)| ages().map(move |age| (age, size, length))).collect();
+    asked.extend(others.concat().into_iter().map(|(size, length)| (one(random, &ENDS[3..]) as u32, size, length)));
+    asked
+}
+
+/// Whole records, at ages and at numbers that are none.
+fn records_at_ages(random: &mut Random) -> Vec<Vec<u8>> {
+    many(12_000, random, |random| [&any_age(random).to_le_bytes()[..], &usual(random)].concat())
+}
+
+/// What a refused answer begins with, where it doesn't begin with what the call tells.
+const REFUSED: u8 = 0xff;
+
+/// An answer, or the refusal: its number in four bytes, and what it carries in eight.
+pub fn answered(answer: Result<Vec<u8>, Refused>) -> Vec<u8> {
+    answer.unwrap_or_else(|why| [&[REFUSED], &why.number.to_le_bytes()[..], &why.carried.to_le_bytes()].concat())
+}
+
+/// What a call tells: the number in four bytes, the amount in eight, and in eight what a refusal carries.
+pub fn told(answer: Result<usize, Refused>) -> Vec<u8> {
+    let (why, amount) = answer.map_or_else(|why| (why, 0), |amount| (Refused::with(0), amount as u64));
+    [&why.number.to_le_bytes()[..], &amount.to_le_bytes(), &why.carried.to_le_bytes()].concat()
+}
+
+/// What parsing tells, and the fields that end within an age; the others are zero, and all are where it is refused. An age is the end of a
+/// field, so that what a reader of that age doesn't know are the bytes from there on.
+fn parsed(found: Result<(ResTableConfig, usize), Refused>, age: usize) -> Vec<u8> {
+    let mut known = found.as_ref().map_or(vec![], |(record, _)| fields(record)[..age].to_vec());
+    known.resize(64, 0);
+    [told(found.map(|(_, amount)| amount)), known].concat()
 }
 
 /// The fifteen fields in their order, 64 bytes: words little-endian, arrays as they are, yes as 1.

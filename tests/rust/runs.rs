@@ -1,24 +1,25 @@
 //! The questions on an offset of a run: the step there, the run reader, text, marks, and whether a record is held back. 000 has
 //! neither runs nor ages: the answers are 01's rules over what it parses and says.
-use crate::listed::held_back;
-use crate::payloads::{all_of, declare, declared, few_of, many, one, record, Maker, ENDS, RECORDS};
+use crate::cut::Refused;
+use crate::listed::{held_back, stop};
+use crate::payloads::{all_of, declare, declared, few_of, many, one, record, sizes_at_lengths, Maker, ENDS, RECORDS};
 use crate::questions::{Asked, Random};
-use crate::records::fields;
+use crate::records::{at_every_age, fields, told};
 use crate::replaced::in_record;
-use crate::scale::expected::{age, wanted, whole, Wanted};
+use crate::scale::expected::{age, wanted, whole};
 use crate::scale::inputs::{any_age, cursor, long_run, room, run};
 use crate::scale::Call;
 use crate::spellings::{PLACES, SPELLED};
 use crate::spoilt::{counted_by_hand, SPOILT};
 
-/// A row of this file: an answer to what is asked at an offset, and where it has the replacements of a text.
+/// A row of this file: an answer to what is asked at an offset, by which makers, and where it has the replacements of a text.
 macro_rules! at_a_place {
-    ($tag:literal, $name:literal, $answer:expr, $replacements_at:expr) => {
+    ($tag:literal, $name:literal, $makers:expr, $answer:expr, $replacements_at:expr) => {
         Asked {
             tag: $tag,
             name: $name,
-            full: |random| all_of(AT_OFFSETS, random),
-            fixed: || few_of(AT_OFFSETS, 28),
+            full: |random| all_of($makers, random),
+            fixed: || few_of($makers, 28),
             answer: |payload| {
                 let answer: fn(AtOffset) -> Vec<u8> = $answer;
                 answer(AtOffset::read(payload))
@@ -29,15 +30,19 @@ macro_rules! at_a_place {
 }
 
 /// The rows of the questions.
-pub const STEP_AT: Asked = at_a_place!(37, "step_at", |at| stepped(&at, at.age), None);
-pub const READ_AT: Asked = at_a_place!(38, "read_at", |at| stepped(&at, at.age), None);
-pub const SOUGHT: Asked = at_a_place!(39, "RunReader::new, moved", |at| stepped(&at, 64), None);
-pub const HELD_BACK: Asked = at_a_place!(40, "held_back", held, None);
-pub const TEXT_AT: Asked = at_a_place!(41, "text_at", |at| wrote(at, Call::AgedText), Some(12));
-pub const MARKS_AT: Asked = at_a_place!(42, "marks_at", |at| wrote(at, Call::Marks), None);
+pub const STEP_AT: Asked = at_a_place!(37, "step_at", AT_AGES, |at| stepped(&at, at.age), None);
+pub const READ_AT: Asked = at_a_place!(38, "read_at", AT_AGES, |at| stepped(&at, at.age), None);
+pub const SOUGHT: Asked = at_a_place!(39, "RunReader::new, moved", AT_OFFSETS, |at| stepped(&at, 64), None);
+pub const HELD_BACK: Asked = at_a_place!(40, "held_back", AT_AGES, held, None);
+pub const TEXT_AT: Asked = at_a_place!(41, "text_at", AT_AGES, |at| wrote(at, Call::AgedText), Some(20));
+pub const MARKS_AT: Asked = at_a_place!(42, "marks_at", AT_AGES, |at| wrote(at, Call::Marks), None);
+pub const WALK: Asked = at_a_place!(45, "walk", AT_OFFSETS, walked, None);
 
-/// What the questions are asked about.
-const AT_OFFSETS: &[Maker] = &[everywhere, one_late, in_runs, of_records, spoilt, in_long_runs];
+/// What the questions are asked about whose call takes no age.
+const AT_OFFSETS: &[Maker] = &[everywhere, one_late, in_runs, of_records, spoilt, in_long_runs, cut_at_an_age];
+
+/// What the others are asked about.
+const AT_AGES: &[Maker] = &[everywhere, one_late, in_runs, of_records, spoilt, in_long_runs, cut_at_every_age];
 
 /// What a payload holds: an age, an offset, the bytes that are lent, and the run.
 struct AtOffset<'a> {
@@ -150,17 +155,35 @@ fn spoilt(random: &mut Random) -> Vec<Vec<u8>> {
     asked.into_iter().map(|(age, bytes)| at_offset(random, age, 16, &[vec![0; 16], bytes].concat())).collect()
 }
 
+/// Bytes that declare a size, by themselves or behind a blank record, with few bytes lent or none.
+fn cut_at(random: &mut Random, age: u32, size: usize, length: usize) -> Vec<u8> {
+    let (lent, offset) = (random.below(16), 16 * random.below(2));
+    let run = [vec![0; offset], declared(random, size, length)].concat();
+    AtOffset { age, offset: offset as u64, lent: &vec![7; lent], run: &run }.payload()
+}
+
+/// Every size at every length, where both are small at every age, else at one.
+fn cut_at_every_age(random: &mut Random) -> Vec<Vec<u8>> {
+    at_every_age(random).into_iter().map(|(age, size, length)| cut_at(random, age, size, length)).collect()
+}
+
+/// Every size at every length, each at one of the ages.
+fn cut_at_an_age(random: &mut Random) -> Vec<Vec<u8>> {
+    let pairs = sizes_at_lengths().into_iter().flat_map(|(_, pairs)| pairs);
+    pairs
+        .map(|(size, length)| {
+            let age = one(random, &ENDS[3..]) as u32;
+            cut_at(random, age, size, length)
+        })
+        .collect()
+}
+
 /// Offsets of runs of up to 65,536 bytes.
 fn in_long_runs(random: &mut Random) -> Vec<Vec<u8>> {
     many(60, random, |random| {
         let bytes = long_run(random);
         anywhere(random, &bytes)
     })
-}
-
-/// What a call tells: 01's number in four bytes, the amount in eight.
-fn told(number: u32, amount: usize) -> Vec<u8> {
-    [&number.to_le_bytes()[..], &(amount as u64).to_le_bytes()].concat()
 }
 
 /// The step at an offset for a reader of an age: whether a record is found, where the next step goes on, and what the reader gives
@@ -171,9 +194,9 @@ fn stepped(at: &AtOffset, number: u32) -> Vec<u8> {
         _ => whole(at.rest()).map(|(record, amount)| Some((fields(&record)[..age].to_vec(), amount))),
     });
     let (told, amount, mut known) = match found {
-        Ok(Some((known, amount))) => (told(0, 1), amount, known),
-        Ok(None) => (told(0, 0), 0, vec![]),
-        Err(number) => (told(number, 0), 0, vec![]),
+        Ok(Some((known, amount))) => (told(Ok(1)), amount, known),
+        Ok(None) => (told(Ok(0)), 0, vec![]),
+        Err(why) => (told(Err(why)), 0, vec![]),
     };
     known.resize(64, 0);
     [told, (at.offset + amount as u64).to_le_bytes().to_vec(), known].concat()
@@ -181,28 +204,34 @@ fn stepped(at: &AtOffset, number: u32) -> Vec<u8> {
 
 /// Whether the record at an offset is held back.
 fn held(at: AtOffset) -> Vec<u8> {
-    let late = age(at.age).and_then(|age| Ok(held_back(&at.rest()[..whole(at.rest())?.1], age)));
-    match late {
-        Ok(late) => told(0, late.into()),
-        Err(number) => told(number, 0),
+    told(age(at.age).and_then(|age| Ok(held_back(&at.rest()[..whole(at.rest())?.1], age).into())))
+}
+
+/// Why the run from an offset on stops, where, and how many records it has.
+fn walked(at: AtOffset) -> Vec<u8> {
+    let (mut end, mut records) = (at.offset as usize, 0u64);
+    while let Ok((_, amount)) = whole(at.run.get(end..).unwrap_or(&[])) {
+        end += amount;
+        records += 1;
     }
+    let why = Some(stop(at.run, end)).filter(|why| why.number > 0);
+    [told(why.map_or(Ok(0), Err)), (end as u64).to_le_bytes().to_vec(), records.to_le_bytes().to_vec()].concat()
 }
 
 /// What a call that writes tells, how many replacements its text has, and the lent bytes as it leaves them. Marks have none, nor has a call
 /// that is refused made any.
 fn wrote(at: AtOffset, call: Call) -> Vec<u8> {
-    let wanted: Wanted = wanted(call, at.age, 0, 0, at.rest());
     let (mut left, mut replacements) = (at.lent.to_vec(), 0);
-    let told = match wanted {
+    let told = match wanted(call, at.age, 0, 0, at.rest()) {
         Ok(bytes) if bytes.len() <= left.len() => {
             left[..bytes.len()].copy_from_slice(&bytes);
             if call == Call::AgedText {
                 replacements = whole(at.rest()).map_or(0, |(record, _)| in_record(&record)) as u64;
             }
-            told(0, bytes.len())
+            told(Ok(bytes.len()))
         }
-        Ok(_) => told(5, 0),
-        Err(number) => told(number, 0),
+        Ok(_) => told(Err(Refused::with(5))),
+        Err(why) => told(Err(why)),
     };
     [told, replacements.to_le_bytes().to_vec(), left].concat()
 }

@@ -1,5 +1,6 @@
 //! The comparison at scale. `ask` writes questions, the driver tests/c/scale.c makes the port's calls and writes what came of
 //! them, and `check`, which makes the same questions again, holds every answer and every lent byte to 000 and to 01's rules.
+mod cuts;
 pub mod expected;
 pub mod inputs;
 mod mutations;
@@ -27,10 +28,12 @@ pub enum Call {
     Walk,
     Records,
     Write,
+    Row,
+    RecordLine,
 }
 
 /// The calls with their names.
-pub const CALLS: [(Call, &str); 12] = [
+pub const CALLS: [(Call, &str); 14] = [
     (Call::Take, "take"),
     (Call::Text, "text"),
     (Call::AgedText, "aged text"),
@@ -43,6 +46,8 @@ pub const CALLS: [(Call, &str); 12] = [
     (Call::Walk, "walk"),
     (Call::Records, "records"),
     (Call::Write, "write"),
+    (Call::Row, "row"),
+    (Call::RecordLine, "rec line"),
 ];
 
 /// A question: a call with what it is made with, and what it is to write.
@@ -69,8 +74,13 @@ pub trait Source {
     /// The sorts of input, in the order of the rows.
     fn sorts(&self) -> Vec<&'static str>;
 
-    /// The next question.
-    fn next(&mut self) -> Question;
+    /// The numbers to which its questions must come.
+    fn numbers(&self) -> &'static [usize] {
+        &[0, 1, 2, 3, 4, 5, 6, 7, 8]
+    }
+
+    /// The next question; none behind the last.
+    fn next(&mut self) -> Option<Question>;
 }
 
 /// The tag of the frame behind the last question and of the one behind the last answer.
@@ -153,7 +163,7 @@ impl Got {
 
 /// An answer in its two halves.
 fn numbers(answer: u64) -> String {
-    format!("{answer} (number {}, amount {})", answer >> 32, answer as u32)
+    format!("{answer} (upper half {}, lower half {})", answer >> 32, answer as u32)
 }
 
 /// The source of a name.
@@ -162,13 +172,15 @@ fn source_of(name: &str, seed: &str) -> Result<Box<dyn Source>, String> {
     match name {
         "made" => Ok(Box::new(inputs::Made::new(seed))),
         "mutated" => Ok(Box::new(mutations::Mutated::new(seed))),
+        "cut" => Ok(Box::new(cuts::Cuts::new(seed))),
         _ => Err(format!("no questions are called {name}")),
     }
 }
 
-/// Writes questions: so many that are made, or for so many seconds those that are mutated.
-pub fn ask(name: &str, seed: &str, limit: &str) -> Result<(), String> {
-    let (mut source, limit) = (source_of(name, seed)?, limit.parse().map_err(|_| format!("{limit} is no number"))?);
+/// Writes questions: so many that are made, for so many seconds those that are mutated, or all on records that are cut.
+pub fn ask(name: &str, seed: &str, limit: Option<&str>) -> Result<(), String> {
+    let mut source = source_of(name, seed)?;
+    let limit = limit.map_or(Ok(u64::MAX), str::parse).map_err(|e| format!("the limit: {e}"))?;
     let start = Instant::now();
     let ended = |count: u64| match name {
         "mutated" => count % 1024 == 0 && start.elapsed() >= Duration::from_secs(limit),
@@ -177,11 +189,11 @@ pub fn ask(name: &str, seed: &str, limit: &str) -> Result<(), String> {
     let mut out = BufWriter::with_capacity(1 << 18, std::io::stdout().lock());
     let mut count = 0;
     let mut write = || loop {
-        if ended(count) {
+        let Some(question) = Some(count).filter(|count| !ended(*count)).and_then(|_| source.next()) else {
             out.write_all(&header(END, 0, count, 0, [0; 3]))?;
             return out.flush();
-        }
-        out.write_all(&source.next().frame())?;
+        };
+        out.write_all(&question.frame())?;
         count += 1;
     };
     match write() {
@@ -199,9 +211,9 @@ pub fn check(name: &str, seed: &str) -> Result<(), String> {
     loop {
         let got = Got::read(&mut answers)?;
         if got.status == END {
-            return tally.ended(got.answer);
+            return tally.ended(got.answer, source.numbers());
         }
-        let question = source.next();
+        let question = source.next().ok_or("there are more answers than questions")?;
         let outcome = expected::outcome(&question);
         if !got.is(&outcome, question.lent, tally.count) {
             return Err(format!(

@@ -3,8 +3,8 @@
 use crate::kinds::kind_of;
 use crate::payloads::{all_of, few_of, RECORDS};
 use crate::questions::Asked;
-use crate::listed::taken;
-use crate::records::told;
+use crate::records::answered;
+use crate::scale::expected::whole;
 use crate::spellings::{LONGEST, PLACES, SPELLED};
 use crate::subject::{reach, ResTableConfig};
 
@@ -14,7 +14,7 @@ pub const SHEET: Asked = Asked {
     name: "sheet",
     full: |random| [PLACES, SPELLED, RECORDS].map(|makers| all_of(makers, random)).concat(),
     fixed: || [vec![LONGEST.to_vec()], few_of(PLACES, 40), few_of(SPELLED, 10), few_of(RECORDS, 8)].concat(),
-    answer: |bytes| told(taken(bytes).map(|(record, _)| sheet(&record))),
+    answer: |bytes| answered(whole(bytes).map(|(record, _)| sheet(&record))),
     replacements_at: None,
 };
 

@@ -1,14 +1,14 @@
 //! The questions on texts: of a record, of its locale, of a language, of a region and of a subtag.
-use crate::listed::taken;
 use crate::payloads::{all_of, few_of, RECORDS};
 use crate::questions::Asked;
-use crate::records::told;
+use crate::records::answered;
 use crate::replaced::{held_in_record, held_in_subtag};
+use crate::scale::expected::whole;
 use crate::spellings::{LONGEST, PAIRS, PLACES, SPELLED, SUBTAGS, TOLD_PAIRS};
 use crate::spoilt::{PIECES, SPOILT};
 use crate::subject::{reach, ResTableConfig};
 
-/// The kinds of question of this file. Bytes that hold no whole record are answered by the refusal of `told` alone, the others by `text`.
+/// The kinds of question of this file. Bytes that hold no whole record are answered by the refusal of `answered`, the others by `text`.
 pub const ASKED: &[Asked] = &[
     Asked {
         tag: 48,
@@ -18,7 +18,7 @@ pub const ASKED: &[Asked] = &[
             let few = [few_of(PLACES, 35), few_of(SPELLED, 20), few_of(SPOILT, 26), few_of(RECORDS, 12)];
             [vec![LONGEST.to_vec()], few.concat()].concat()
         },
-        answer: |bytes| told(taken(bytes).map(|(record, _)| of_record(&record, record.as_string()))),
+        answer: |bytes| answered(whole(bytes).map(|(record, _)| of_record(&record, record.as_string()))),
         replacements_at: REPLACEMENTS_AT,
     },
     Asked {
@@ -27,7 +27,7 @@ pub const ASKED: &[Asked] = &[
         full: |random| [SPELLED, SPOILT].map(|makers| all_of(makers, random)).concat(),
         fixed: || [few_of(SPELLED, 20), few_of(SPOILT, 26)].concat(),
         answer: |bytes| {
-            told(taken(bytes).map(|(record, _)| {
+            answered(whole(bytes).map(|(record, _)| {
                 let mut text = String::new();
                 reach::append_dir_locale(&record, &mut text);
                 of_record(&record, text)

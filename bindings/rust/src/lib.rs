@@ -21,13 +21,37 @@ pub const TEXT_MOST: usize = 344;
 /// How many marks a record has: one for each field after its size.
 pub const MARKS: usize = 14;
 
-/// Why a call is refused. The functions of this crate give the first five.
+/// The names of a record's fields, in the order of their offsets. A field's place here is its row, which [`Refusal::FieldCut`]
+/// carries.
+pub const FIELDS: [&str; 15] = [
+    "size",
+    "imsi",
+    "locale",
+    "screen_type",
+    "generic_purpose_field",
+    "screen_size",
+    "version",
+    "screen_config",
+    "screen_size_dp",
+    "locale_script",
+    "locale_variant",
+    "screen_config_2",
+    "locale_script_was_computed",
+    "locale_numbering_system",
+    "end_padding",
+];
+
+/// Why a call is refused. The functions of this crate give the first six.
 #[derive(Clone, Copy, Debug, PartialEq, Eq, Hash)]
 pub enum Refusal {
     /// There are fewer than 16 bytes.
     FewerThan16,
-    /// There are 16 bytes or more, and fewer than the record's size.
-    FewerThanSize,
+    /// There are 16 bytes or more, and fewer than the record's size: a field that the size holds ends past them. The first such field
+    /// is the one of this row of [`FIELDS`], from 4 to 14.
+    FieldCut(usize),
+    /// There are 16 bytes or more, and fewer than the record's size: every field that the size holds is there, and only bytes that
+    /// no field decodes are lacking.
+    UndecodedCut,
     /// The age is not among the twelve.
     NotAnAge,
     /// A byte of the record at offset age or later isn't zero.
@@ -41,32 +65,58 @@ pub enum Refusal {
 }
 
 impl Refusal {
-    /// Every refusal, by its number from 1.
-    const ALL: [Refusal; 7] = [
-        Refusal::FewerThan16,
-        Refusal::FewerThanSize,
-        Refusal::NotAnAge,
-        Refusal::HeldBack,
-        Refusal::ShortBuffer,
-        Refusal::UnreadField,
-        Refusal::TooMuchInput,
-    ];
+    /// The refusal of a number, with what it carries.
+    fn of(number: u32, carried: usize) -> Refusal {
+        match number {
+            1 => Refusal::FewerThan16,
+            2 => Refusal::FieldCut(carried),
+            3 => Refusal::NotAnAge,
+            4 => Refusal::HeldBack,
+            5 => Refusal::ShortBuffer,
+            6 => Refusal::UnreadField,
+            7 => Refusal::TooMuchInput,
+            8 => Refusal::UndecodedCut,
+            _ => unreachable!("the C face refuses with no other number than 1 to 8, not with {number}"),
+        }
+    }
 
-    /// The refusal's number, from 1 to 7.
+    /// The refusal's number, from 1 to 8.
     ///
     /// ```
-    /// assert_eq!(res_table_config::Refusal::HeldBack.number(), 4);
+    /// use res_table_config::Refusal;
+    /// assert_eq!(Refusal::HeldBack.number(), 4);
+    /// assert_eq!(Refusal::FieldCut(10).number(), 2);
+    /// assert_eq!(Refusal::UndecodedCut.number(), 8);
     /// ```
     pub fn number(self) -> u32 {
-        self as u32 + 1
+        match self {
+            Refusal::FewerThan16 => 1,
+            Refusal::FieldCut(_) => 2,
+            Refusal::NotAnAge => 3,
+            Refusal::HeldBack => 4,
+            Refusal::ShortBuffer => 5,
+            Refusal::UnreadField => 6,
+            Refusal::TooMuchInput => 7,
+            Refusal::UndecodedCut => 8,
+        }
     }
 }
 
+/// The refusal in words; of a cut field its row and its name.
+///
+/// ```
+/// use res_table_config::Refusal;
+/// assert_eq!(Refusal::FieldCut(10).to_string(), "cut inside field 10, locale_variant");
+/// ```
 impl fmt::Display for Refusal {
     fn fmt(&self, f: &mut fmt::Formatter<'_>) -> fmt::Result {
         f.write_str(match self {
             Refusal::FewerThan16 => "fewer than 16 bytes",
-            Refusal::FewerThanSize => "fewer bytes than the record's size",
+            Refusal::FieldCut(row) => {
+                let name = FIELDS.get(*row).unwrap_or(&"which no record has");
+                return write!(f, "cut inside field {row}, {name}");
+            }
+            Refusal::UndecodedCut => "no field is cut: only undecoded bytes are lacking",
             Refusal::NotAnAge => "not one of the twelve ages",
             Refusal::HeldBack => "held back: a byte past the age isn't zero",
             Refusal::ShortBuffer => "the buffer is too short",
@@ -89,22 +139,27 @@ mod face {
     }
 }
 
-/// An answer of the C face: a refusal's number in the upper half, or 0 and the amount in the lower half.
+/// An answer of the C face: in the upper half a refusal's number, or 0; in the lower half what the refusal carries, or the amount.
 fn told(answer: u64) -> Result<usize, Refusal> {
-    match (answer >> 32) as usize {
-        0 => Ok((answer & 0xffff_ffff) as usize),
-        number => Err(Refusal::ALL[number - 1]),
+    let low = (answer & 0xffff_ffff) as usize;
+    match (answer >> 32) as u32 {
+        0 => Ok(low),
+        number => Err(Refusal::of(number, low)),
     }
 }
 
 /// How many bytes the record at the front of `bytes` takes: its size, 16 at the least.
 ///
-/// Refuses with [`Refusal::FewerThan16`] and [`Refusal::FewerThanSize`].
+/// Refuses with [`Refusal::FewerThan16`], and with [`Refusal::FieldCut`] or [`Refusal::UndecodedCut`] where it isn't whole.
 ///
 /// ```
 /// use res_table_config::{take, Refusal};
-/// assert_eq!(take(&[0; 40]), Ok(16));
-/// assert_eq!(take(&[0; 15]), Err(Refusal::FewerThan16));
+/// let mut record = [0; 65];
+/// assert_eq!(take(&record), Ok(16));
+/// assert_eq!(take(&record[..15]), Err(Refusal::FewerThan16));
+/// record[0] = 65;
+/// assert_eq!(take(&record[..40]), Err(Refusal::FieldCut(10)));
+/// assert_eq!(take(&record[..64]), Err(Refusal::UndecodedCut));
 /// ```
 pub fn take(bytes: &[u8]) -> Result<usize, Refusal> {
     // SAFETY: pointer and length are those of a slice that lives through the call.

@@ -6,7 +6,7 @@
 #[path = "../examples/list.rs"]
 mod list;
 
-use res_table_config::{aged_text, marks, order, replaced, take, text, Refusal, MARKS, TEXT_MOST};
+use res_table_config::{aged_text, marks, order, replaced, take, text, Refusal, FIELDS, MARKS, TEXT_MOST};
 use std::cmp::Ordering;
 
 /// 01's listing: a phone's record, a blank one, and three bytes that are none.
@@ -42,9 +42,10 @@ fn takes() {
     assert_eq!(take(&[]), Err(Refusal::FewerThan16));
     assert_eq!(take(&[0; 15]), Err(Refusal::FewerThan16));
     assert_eq!(take(&[0; 16]), Ok(16));
-    assert_eq!(take(&record(17, 4, 0)[..16]), Err(Refusal::FewerThanSize));
+    assert_eq!(take(&record(17, 4, 0)[..16]), Err(Refusal::UndecodedCut));
     assert_eq!(take(&record(17, 4, 0)[..17]), Ok(17));
-    assert_eq!(take(&[255; 80]), Err(Refusal::FewerThanSize));
+    assert_eq!(take(&[255; 80]), Err(Refusal::UndecodedCut));
+    assert_eq!(take(&[255; 63]), Err(Refusal::FieldCut(14)));
 }
 
 fn texts() {
@@ -53,7 +54,7 @@ fn texts() {
     assert_eq!(plain(RUN, 22), Err(Refusal::ShortBuffer));
     assert_eq!(plain(&[0; 16], 0), Ok(vec![]));
     assert_eq!(plain(&[0; 15], TEXT_MOST), Err(Refusal::FewerThan16));
-    assert_eq!(plain(&record(17, 4, 0)[..16], 0), Err(Refusal::FewerThanSize));
+    assert_eq!(plain(&record(17, 4, 0)[..16], 0), Err(Refusal::UndecodedCut));
     assert_eq!(plain(&record(65, 64, 1), TEXT_MOST), Ok(vec![]));
 }
 
@@ -62,7 +63,7 @@ fn aged_texts() {
     assert_eq!(aged(&wide, 36, TEXT_MOST), Ok(b"w100dp".to_vec()));
     assert_eq!(aged(&wide, 36, 5), Err(Refusal::ShortBuffer));
     assert_eq!(aged(&wide, 32, 0), Err(Refusal::HeldBack));
-    assert_eq!(aged(&wide[..35], 32, 0), Err(Refusal::FewerThanSize));
+    assert_eq!(aged(&wide[..35], 32, 0), Err(Refusal::FieldCut(8)));
     assert_eq!(aged(&[], 33, 0), Err(Refusal::NotAnAge));
     assert_eq!(aged(&record(65, 64, 1), 64, TEXT_MOST), Err(Refusal::HeldBack));
 }
@@ -82,7 +83,7 @@ fn all_replaced() {
     assert_eq!(replaced(&damaged, 64), Ok(24));
     assert_eq!(replaced(&damaged, 61), Ok(24));
     assert_eq!(replaced(&damaged, 53), Err(Refusal::HeldBack));
-    assert_eq!(replaced(&damaged[..63], 53), Err(Refusal::FewerThanSize));
+    assert_eq!(replaced(&damaged[..63], 53), Err(Refusal::FieldCut(14)));
     assert_eq!(replaced(&damaged[..15], 53), Err(Refusal::FewerThan16));
     assert_eq!(replaced(&damaged[..15], 54), Err(Refusal::NotAnAge));
     assert_eq!(replaced(&damaged[..63], 54), Err(Refusal::NotAnAge));
@@ -109,19 +110,74 @@ fn orders() {
     assert_eq!(order(&mcc, &mnc), Ok(Ordering::Less));
     assert_eq!(order(&mnc, &mcc), Ok(Ordering::Greater));
     assert_eq!(order(&[0; 16], &record(17, 4, 0)), Ok(Ordering::Equal));
-    assert_eq!(order(&record(17, 4, 0)[..16], &[0; 15]), Err(Refusal::FewerThanSize));
+    assert_eq!(order(&record(17, 4, 0)[..16], &[0; 15]), Err(Refusal::UndecodedCut));
     assert_eq!(order(&[0; 15], &record(17, 4, 0)[..16]), Err(Refusal::FewerThan16));
     assert_eq!(order(&mcc, &[]), Err(Refusal::FewerThan16));
 }
 
+/// Records that aren't whole, worked out by hand from 01's table: a size, how many bytes there are, and the refusal.
+const CUTS: [(u8, usize, Refusal); 23] = [
+    (17, 16, Refusal::UndecodedCut),
+    (19, 16, Refusal::UndecodedCut),
+    (20, 16, Refusal::FieldCut(4)),
+    (20, 19, Refusal::FieldCut(4)),
+    (64, 16, Refusal::FieldCut(4)),
+    (23, 20, Refusal::UndecodedCut),
+    (255, 20, Refusal::FieldCut(5)),
+    (28, 24, Refusal::FieldCut(6)),
+    (32, 31, Refusal::FieldCut(7)),
+    (36, 32, Refusal::FieldCut(8)),
+    (40, 39, Refusal::FieldCut(9)),
+    (47, 40, Refusal::UndecodedCut),
+    (48, 40, Refusal::FieldCut(10)),
+    (64, 40, Refusal::FieldCut(10)),
+    (64, 47, Refusal::FieldCut(10)),
+    (52, 48, Refusal::FieldCut(11)),
+    (53, 52, Refusal::FieldCut(12)),
+    (61, 53, Refusal::FieldCut(13)),
+    (60, 53, Refusal::UndecodedCut),
+    (64, 61, Refusal::FieldCut(14)),
+    (65, 63, Refusal::FieldCut(14)),
+    (65, 64, Refusal::UndecodedCut),
+    (255, 79, Refusal::UndecodedCut),
+];
+
+fn cuts() {
+    for (size, length, why) in CUTS {
+        let bytes = &record(size, length - 1, 1)[..length];
+        assert_eq!(take(bytes), Err(why));
+        assert_eq!(plain(bytes, 0), Err(why));
+        assert_eq!(order(bytes, &[0; 15]), Err(why));
+        assert_eq!(order(bytes, &record(20, 4, 0)[..17]), Err(why));
+        assert_eq!(order(&[0; 16], bytes), Err(why));
+        assert_eq!(order(&[0; 15], bytes), Err(Refusal::FewerThan16));
+        for age in [16, 20, 24, 28, 32, 36, 40, 48, 52, 53, 61, 64] {
+            assert_eq!(aged(bytes, age, 0), Err(why));
+            assert_eq!(replaced(bytes, age), Err(why));
+            assert_eq!(marks(bytes, age), Err(why));
+        }
+        assert_eq!(marks(bytes, 63), Err(Refusal::NotAnAge));
+    }
+}
+
 fn refusals() {
-    let numbers =
-        [Refusal::FewerThan16, Refusal::FewerThanSize, Refusal::NotAnAge, Refusal::HeldBack, Refusal::ShortBuffer]
-            .map(Refusal::number);
-    assert_eq!(numbers, [1, 2, 3, 4, 5]);
-    assert_eq!([Refusal::UnreadField, Refusal::TooMuchInput].map(Refusal::number), [6, 7]);
+    let all = [
+        Refusal::FewerThan16,
+        Refusal::FieldCut(4),
+        Refusal::NotAnAge,
+        Refusal::HeldBack,
+        Refusal::ShortBuffer,
+        Refusal::UnreadField,
+        Refusal::TooMuchInput,
+        Refusal::UndecodedCut,
+    ];
+    assert_eq!(all.map(Refusal::number), [1, 2, 3, 4, 5, 6, 7, 8]);
     let why: Box<dyn std::error::Error> = Refusal::HeldBack.into();
     assert_eq!(why.to_string(), "held back: a byte past the age isn't zero");
+    assert_eq!(Refusal::FieldCut(10).to_string(), "cut inside field 10, locale_variant");
+    assert_eq!(Refusal::FieldCut(15).to_string(), "cut inside field 15, which no record has");
+    assert_eq!(Refusal::UndecodedCut.to_string(), "no field is cut: only undecoded bytes are lacking");
+    assert_eq!((FIELDS[0], FIELDS[8], FIELDS[14]), ("size", "screen_size_dp", "end_padding"));
 }
 
 fn lists() {
@@ -131,15 +187,18 @@ fn lists() {
     let held = list::lines(&record(36, 32, 100)[..36], Some(32));
     assert_eq!(held, "0 0 36 (held back: a byte past the age isn't zero)\nstopped at 36\n");
     assert_eq!(list::lines(&[], None), "stopped at 0\n");
+    let cut = list::lines(&record(64, 4, 0)[..40], None);
+    assert_eq!(cut, "stopped at 0: cut inside field 10, locale_variant\n");
 }
 
-const CHECKS: [(&str, fn()); 8] = [
+const CHECKS: [(&str, fn()); 9] = [
     ("take", takes),
     ("text", texts),
     ("aged text", aged_texts),
     ("replaced", all_replaced),
     ("marks", all_marks),
     ("order", orders),
+    ("cut", cuts),
     ("refusals", refusals),
     ("list", lists),
 ];

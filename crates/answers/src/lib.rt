@@ -1,15 +1,15 @@
 // What every call of the library answers: a success with its amount, or a refusal with 01's number.
 ghost use mathlib.Core.Path.{_≡_};
 ghost use Rattle.answers.specs.Counted.{countedWith};
-ghost use Rattle.answers.specs.Numbers.{numberOf};
-ghost use Rattle.answers.specs.Tells.{packedOf, refusal, takenTells, writtenTells};
+ghost use Rattle.answers.specs.Numbers.{carriedBy, numberOf};
+ghost use Rattle.answers.specs.Tells.{packedOf, refusal, success, takenTells, writtenTells};
 
 // Why a call is refused.
 pub enum Refusal {
     // There are fewer than 16 bytes.
     FewerThan16,
-    // There are 16 bytes or more, and fewer than the record's size.
-    FewerThanSize,
+    // There are 16 bytes or more, and fewer than the record's size: the field of this row is the first that is cut.
+    FieldCut(usize),
     // The age is not among the twelve.
     NotAnAge,
     // The record is held back at the age.
@@ -20,13 +20,16 @@ pub enum Refusal {
     UnreadField,
     // There are more than 65,536 bytes of input.
     TooMuchInput,
+    // There are 16 bytes or more, and fewer than the record's size: no field is cut, only undecoded bytes are lacking.
+    UndecodedCut,
 }
 
 // What an answer says in 01's numbers. A success has number 0 and an amount: the bytes taken or written, or what its answer enum says, as
-// the order of two records or whether one is held back. A refusal has its number, and amount 0.
+// the order of two records or whether one is held back, and carries 0. A refusal has its number, amount 0, and what it carries.
 pub struct Told {
     pub number: u32,
     pub amount: usize,
+    pub carried: usize,
 }
 
 // The answer of a call that takes bytes from the front of what it is given.
@@ -54,12 +57,29 @@ impl Refusal {
     {
         match self {
             Self::FewerThan16 => 1,
-            Self::FewerThanSize => 2,
+            Self::FieldCut(_) => 2,
             Self::NotAnAge => 3,
             Self::HeldBack => 4,
             Self::ShortBuffer => 5,
             Self::UnreadField => 6,
             Self::TooMuchInput => 7,
+            Self::UndecodedCut => 8,
+        }
+    }
+
+    // The number that the refusal carries beside its own, 0 where it carries none.
+    pub fn carried(self) -> usize
+        ensures { λ r. ⌜ r ≡ carriedBy self ⌝ }
+    {
+        match self {
+            Self::FewerThan16 => 0,
+            Self::FieldCut(row) => row,
+            Self::NotAnAge => 0,
+            Self::HeldBack => 0,
+            Self::ShortBuffer => 0,
+            Self::UnreadField => 0,
+            Self::TooMuchInput => 0,
+            Self::UndecodedCut => 0,
         }
     }
 
@@ -70,16 +90,32 @@ impl Refusal {
         Told {
             number: self.number(),
             amount: 0,
+            carried: self.carried(),
         }
     }
 }
 
 impl Told {
-    // What is told as one number: the number times 2^32, and the lower 32 bits of the amount.
+    // What a success tells.
+    pub fn success(amount: usize) -> Self
+        ensures { λ r. ⌜ r ≡ success amount ⌝ }
+    {
+        Told {
+            number: 0,
+            amount,
+            carried: 0,
+        }
+    }
+
+    // What is told as one number: the number times 2^32, and the lower 32 bits of a success's amount or of what a refusal carries.
     pub fn packed(self) -> u64
         ensures { λ r. ⌜ r ≡ packedOf self ⌝ }
     {
-        self.number as u64 * 4294967296 + self.amount as u64 % 4294967296
+        if self.number == 0 {
+            self.amount as u64 % 4294967296
+        } else {
+            self.number as u64 * 4294967296 + self.carried as u64 % 4294967296
+        }
     }
 }
 
@@ -89,7 +125,7 @@ impl Taken {
         ensures { λ r. ⌜ r ≡ takenTells self ⌝ }
     {
         match self {
-            Self::Took(amount) => Told { number: 0, amount },
+            Self::Took(amount) => Told::success(amount),
             Self::Refused(why) => why.told(),
         }
     }
@@ -101,7 +137,7 @@ impl Written {
         ensures { λ r. ⌜ r ≡ writtenTells self ⌝ }
     {
         match self {
-            Self::Wrote(amount) => Told { number: 0, amount },
+            Self::Wrote(amount) => Told::success(amount),
             Self::Refused(why) => why.told(),
         }
     }

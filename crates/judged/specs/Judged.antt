@@ -60,9 +60,9 @@ twelve =
     }
     ∷ record {
       number = 2;
-      says = "Size 17 in 16 bytes: 2. In 17: takes 17.";
+      says = "Size 17 in 16 bytes: 8, as 02 has it. In 17: takes 17.";
       given = told (takeOf (17 ∷ zeros 15)) ∷ told (takeOf (17 ∷ zeros 16)) ∷ [];
-      asked = (2 ∷ 0 ∷ []) ∷ (0 ∷ 17 ∷ []) ∷ [];
+      asked = (8 ∷ 0 ∷ []) ∷ (0 ∷ 17 ∷ []) ∷ [];
     }
     ∷ record {
       number = 3;

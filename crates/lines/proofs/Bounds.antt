@@ -1,13 +1,15 @@
 -- How long a line is at the most: in a listing, none is longer than 1,069 bytes. Assumes nothing.
 use Prim.Native.Nat.{ℕ, suc, _+_, _≤_}
 use mathlib.Core.Path.{_≡_}
-use mathlib.Core.List.{List}
+use mathlib.Core.Bool.{cond}
+use mathlib.Core.List.{List, [], _++_}
 use native.Mathlib.Omega.{arith}
-use lib.Dec.{lit<}
+use lib.Dec.{eqb, lit<}
 use lib.ListN.{length, length-append}
 use Rattle.answers.specs.Numbers.{numberOf}
 use Rattle.answers.specs.Tells.{success}
 use Rattle.answers.proofs.OneToOne.{number-most}
+use Rattle.laws.proofs.Choice.{chosen}
 use Rattle.buffer.specs.Decimal.{decimal}
 use Rattle.buffer.proofs.Digits.{decimal-long}
 use Rattle.record.specs.Table.{Bytes}
@@ -15,9 +17,9 @@ use Rattle.reading.specs.Reading.{takeOf, sizeOf}
 use Rattle.reading.proofs.Whole.{took-says}
 use Rattle.runs.specs.declared.Stop.{Stop}
 use Rattle.runs.specs.Fronts.{stopTells}
-use Rattle.record_line.specs.RecordLine.{recordLine}
+use Rattle.record_line.specs.RecordLine.{space, recordLine}
 use Rattle.record_line.proofs.Bounds.{record-long}
-use Rattle.lines.specs.Lines.{ageLine, stopLine}
+use Rattle.lines.specs.Lines.{ageLine, reasonWords, stopLine}
 
 -- the line with an age of d + 1 digits at the most
 pub age-long : (d a : ℕ) → length (decimal a) ≤ suc d → length (ageLine a) ≤ d + 6
@@ -29,10 +31,20 @@ stop-digit : (stop : Stop) → length (decimal (stopTells stop .number)) ≤ 1
 stop-digit Stop.Ended = decimal-long 0 0 (lit< tt)
 stop-digit (Stop.Refused why) = decimal-long 0 (numberOf why) (omega (arith, number-most why))
 
--- the last line, with an offset of d + 1 digits at the most
-pub stop-long : (d p : ℕ) (stop : Stop) → length (decimal p) ≤ suc d → length (stopLine p stop) ≤ d + 9
+-- and the row behind a 2 has e + 1 at the most
+reason-long : (e : ℕ) (stop : Stop) → length (decimal (stopTells stop .carried)) ≤ suc e → length (reasonWords (stopTells stop)) ≤ e + 3
+unfolding reasonWords
+reason-long e stop h =
+    let g = stop-digit stop in
+    let row : length (cond (eqb (stopTells stop .number) 2) (space ++ decimal (stopTells stop .carried)) []) ≤ e + 2
+    = chosen (λ (w : List ℕ). length w ≤ e + 2) (eqb (stopTells stop .number) 2) (omega arith) (omega arith) in
+    simp length-append (omega arith)
+
+-- the last line, with an offset of d + 1 digits and a row of e + 1 at the most
+pub stop-long : (d e p : ℕ) (stop : Stop) → length (decimal p) ≤ suc d → length (decimal (stopTells stop .carried)) ≤ suc e
+    → length (stopLine p stop) ≤ d + e + 11
 unfolding stopLine
-stop-long d p stop h = let g = stop-digit stop in simp length-append (omega arith)
+stop-long d e p stop h k = let r = reason-long e stop k in simp length-append (omega arith)
 
 -- the line of a record that stands whole in 65,536 bytes, with an index that is at most its offset
 pub whole-long : (a i p t : ℕ) (s : List ℕ) → Bytes s → success t ≡ takeOf s → i ≤ p → p + length s ≤ 65536 → length (recordLine a i p s) ≤ 1069

@@ -16,13 +16,14 @@ use Rattle.locale.specs.Subtags.{localeSubtags}
 use Rattle.places.specs.Say.{say, dashAfter, sayAll}
 use Rattle.places.specs.Places.{placesOf, textOf}
 use Rattle.record.specs.Ages.{isAge}
+use Rattle.reading.specs.Cut.{lacking}
 use Rattle.reading.specs.Reading.{reads, fieldBy, recordBy, aged, ifWhole, ifAge}
 use Rattle.marking.specs.Marks.{markBetween, lettersIn, heldBack}
 use Rattle.runs.specs.Fronts.{offsetsIn, stopIn}
 use Rattle.runs.specs.Runs.{frontAt}
 use Rattle.record_line.specs.RecordLine.{visible, escaped, escapedAll, shownWords, newline, laidOut}
 use Rattle.lines.specs.declared.Cursor.{Cursor}
-use Rattle.lines.specs.Lines.{ageLine, stopLine, recordLines, lineAt, after, lineRefused, lineOf, listingOf}
+use Rattle.lines.specs.Lines.{ageLine, reasonWords, stopLine, recordLines, lineAt, after, lineRefused, lineOf, listingOf}
 
 -- 01's bytes: a record of 16, sixteen zeros, and three bytes more
 abbrev given : List ℕ
@@ -44,6 +45,9 @@ pub examples :
     ∷ [])
     -- no bytes: the run stops at its exact end with 0
     × (listingOf 64 [] ≡ (ascii "age 64" ++ newline) ∷ (ascii "stop 0 0" ++ newline) ∷ [])
+    -- a record that is cut: inside field 10, at every age, or behind all fields
+    × (listingOf 36 (64 ∷ replicate 39 0) ≡ (ascii "age 36" ++ newline) ∷ (ascii "stop 0 2 10" ++ newline) ∷ [])
+    × (listingOf 64 (65 ∷ replicate 63 0) ≡ (ascii "age 64" ++ newline) ∷ (ascii "stop 0 8" ++ newline) ∷ [])
     -- a held-back record is counted, and the run goes on
     × (listingOf 64 (held ++ replicate 16 0)
     ≡ (ascii "age 64" ++ newline)
@@ -56,8 +60,8 @@ pub examples :
     × (lineOf 64 given (Cursor.Record 1 16) (replicate 26 7) ≡ lineRefused Refusal.ShortBuffer (Cursor.Record 1 16) (replicate 26 7))
     × (lineOf 64 given (Cursor.Record 1 16) (replicate 28 7)
     ≡ record { does = wrote (ascii "1 16 0 BBBAAAAAAAAAAA %- 0" ++ newline) (replicate 28 7); goes = Cursor.Record 2 32 })
-unfolding listingOf recordLines offsetsIn stopIn frontAt lineOf lineAt after written ageLine stopLine laidOut shownWords
-    escapedAll escaped visible lettersIn markBetween heldBack isAge ifAge ifWhole aged recordBy fieldBy reads textOf placesOf
+unfolding listingOf recordLines offsetsIn stopIn frontAt lineOf lineAt after written ageLine stopLine reasonWords laidOut shownWords
+    escapedAll escaped visible lettersIn markBetween heldBack isAge ifAge ifWhole lacking aged recordBy fieldBy reads textOf placesOf
     sayAll say dashAfter localeWords newWords legacyWords unpacked subtagOf dropNuls keep replaced replacedBy frontOf okAt decimal
     digits replacements illFormedBy localeSubtags
-examples = (refl, refl, refl, refl, refl, refl)
+examples = (refl, refl, refl, refl, refl, refl, refl, refl)

@@ -15,10 +15,10 @@ use Rattle.record.specs.Ages.{isAge}
 use Rattle.record.proofs.Twelve.{age-bounds}
 use Rattle.runs.specs.declared.Stop.{Stop}
 use Rattle.runs.specs.declared.Front.{Front}
-use Rattle.runs.specs.Fronts.{byFront, offsetsIn, endIn}
+use Rattle.runs.specs.Fronts.{byFront, offsetsIn, endIn, stopTells}
 use Rattle.runs.specs.Runs.{frontAt}
 use Rattle.runs.proofs.Fronts.{standing, takes, stops, offset-next, stop-next, offset-none, stop-here, stop-is}
-use Rattle.runs.proofs.Records.{front-says, front-within}
+use Rattle.runs.proofs.Records.{front-says, front-within, stop-carries}
 use Rattle.record_line.specs.RecordLine.{recordLine}
 use Rattle.lines.specs.declared.Cursor.{Cursor}
 use Rattle.lines.specs.Lines.{ageLine, stopLine, lineAt, after, lineOf, callsOf, cursorOf, recordLines, listingOf}
@@ -75,8 +75,9 @@ module _ (a : ℕ) (s : List ℕ) (known : isAge a ≡ true) (small : length s �
     stop-last : p ≤ length s → (stop : Stop) → frontAt s p ≡ Front.Stops stop → Gives a s (Cursor.Record i p) (stopLine p stop ∷ []) Cursor.End
     stop-last inside stop e =
         let digits = decimal-long 4 p (omega arith) in
+        let row = decimal-long 1 (stopTells stop .carried) (omega (arith, ap (λ (z : Stop). stopTells z .carried) (stop-is (frontAt s) p stop e), stop-carries s p)) in
         then (Cursor.Record i p) (stopLine p stop) [] Cursor.End Cursor.End (line-here ∙ ap (byFront _ _) e) (goes-here ∙ ap (byFront _ _) e)
-        (omega (arith, stop-long 4 p stop digits)) (ended Cursor.End)
+        (omega (arith, stop-long 4 1 p stop digits row)) (ended Cursor.End)
 
   module _ (bytes : Bytes s) where
     -- the lines of a run of k records at the most, and its last line

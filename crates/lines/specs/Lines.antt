@@ -2,9 +2,10 @@
 use Prim.Native.Nat.{ℕ, suc, _+_}
 use mathlib.Core.List.{List, [], _∷_, _++_}
 use mathlib.Core.Bool.{Bool, cond}
-use lib.Dec.{leb, ltb}
+use lib.Dec.{eqb, leb, ltb}
 use lib.ListN.{length, drop}
 use Rattle.answers.specs.declared.Refusal.{Refusal}
+use Rattle.answers.specs.declared.Told.{Told}
 use Rattle.buffer.specs.Ascii.{ascii}
 use Rattle.buffer.specs.Decimal.{decimal}
 use Rattle.buffer.specs.Written.{Outcome, outcome, written, wrote, refused}
@@ -20,9 +21,13 @@ use Rattle.lines.specs.declared.Lined.{Lined}
 unfoldable pub ageLine : ℕ → List ℕ
 ageLine a = ascii "age " ++ decimal a ++ newline
 
--- the last line has the offset where the run stopped, and the number that the stop tells
+-- the number that a stop tells, and behind a 2 the row that it carries
+unfoldable pub reasonWords : Told → List ℕ
+reasonWords told = decimal (told .number) ++ cond (eqb (told .number) 2) (space ++ decimal (told .carried)) []
+
+-- the last line has the offset where the run stopped, and why
 unfoldable pub stopLine : ℕ → Stop → List ℕ
-stopLine p stop = ascii "stop " ++ decimal p ++ space ++ decimal (stopTells stop .number) ++ newline
+stopLine p stop = ascii "stop " ++ decimal p ++ space ++ reasonWords (stopTells stop) ++ newline
 
 -- the line at a cursor: at the start the age; at index i and offset p the record that stands there whole, else the stop; none at
 -- the end, and none where an index is past its offset, which is so in no listing

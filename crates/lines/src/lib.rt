@@ -1,9 +1,11 @@
 // The lines of a listing, one at a time in a lent buffer. Each call looks only at the record at its cursor.
 use answers::Refusal;
+use answers::Told;
 use answers::Written;
 use buffer::put_between;
 use buffer::put_byte;
 use buffer::put_decimal;
+use buffer::put_label;
 use buffer::write;
 use record::Age;
 use record_line::write_line;
@@ -16,9 +18,10 @@ ghost use Prim.Native.Nat.{_≤_};
 ghost use lib.Dec.{eqb};
 ghost use lib.ListN.{length};
 ghost use Rattle.answers.specs.Tells.{writtenTells};
+ghost use Rattle.buffer.specs.Put.{Put};
 ghost use Rattle.buffer.specs.Written.{outcome, written};
 ghost use Rattle.record.specs.Ages.{isAge};
-ghost use Rattle.lines.specs.Lines.{after, ageLine, lineAt, lineOf, lineWritten, linedOutcome, stopLine};
+ghost use Rattle.lines.specs.Lines.{after, ageLine, lineAt, lineOf, lineWritten, linedOutcome, reasonWords, stopLine};
 
 // A listing takes no more bytes.
 pub const MOST_BYTES: usize = 65536;
@@ -27,7 +30,7 @@ pub const MOST_BYTES: usize = 65536;
 const LONGEST_AGE_LINE: usize = 15;
 
 // No last line is longer.
-const LONGEST_STOP_LINE: usize = 28;
+const LONGEST_STOP_LINE: usize = 49;
 
 // Where a listing goes on.
 pub enum Cursor {
@@ -61,14 +64,26 @@ pub fn age_line(age: Age, out: &mut [u8]) -> Written
     write(&own[..n], out)
 }
 
-// Writes the line with the offset where a run stopped, and the number of why.
+// Puts the number that a stop tells, and behind a 2 the row that it carries.
+fn put_reason(told: Told, at: usize, out: &mut [u8]) -> usize
+    ensures { λ r. ⌜ Put (now (out .entry)) at (reasonWords told) (now (out .exit)) r ⌝ }
+{
+    let a = put_decimal(told.number as u64, at, out);
+    if told.number == 2 {
+        put_label(b" ", told.carried as u64, a, out)
+    } else {
+        a
+    }
+}
+
+// Writes the line with the offset where a run stopped, and why.
 pub fn stop_line(offset: usize, stop: Stop, out: &mut [u8]) -> Written
     ensures { λ r. ⌜ outcome r (now (out .exit)) ≡ written (stopLine offset stop) (now (out .entry)) ⌝ }
 {
-    let number = stop.told().number;
+    let told = stop.told();
     let mut own = [0u8; LONGEST_STOP_LINE];
     let a = put_between(b"stop ", offset as u64, b" ", 0, &mut own);
-    let b = put_decimal(number as u64, a, &mut own);
+    let b = put_reason(told, a, &mut own);
     let n = put_byte(b'\n', b, &mut own);
     write(&own[..n], out)
 }

@@ -8,11 +8,11 @@ use Rattle.reading.proofs.Exactly.{whole-row, age-row}
 use Rattle.marking.specs.Marks.{lettersIn, marksOf}
 use Rattle.marking.specs.Demand1.{MarksRefuse, HeldRefuses}
 
--- `marks`, of fourteen letters: 3, 1, 2, 5
+-- `marks`, of fourteen letters: 3, 1, 2 or 8, 5
 pub marks-exactly : (a : ℕ) (s old : List ℕ) → MarksRefuse a s old
 unfolding lettersIn
 marks-exactly a s old = refuses-by refl (age-row a (whole-row s (written-row (marksOf a s) old)))
 
--- `held_back`: 3, 1, 2
+-- `held_back`: 3, 1, 2 or 8
 pub held-refuses : (a : ℕ) (s : List ℕ) → HeldRefuses a s
 held-refuses a s = told-exactly (age-row a (whole-row s none-left))

@@ -8,6 +8,7 @@ use Rattle.answers.specs.Tells.{success, refusal}
 use Rattle.buffer.specs.Ascii.{ascii}
 use Rattle.buffer.specs.Written.{written, wrote, refused}
 use Rattle.record.specs.Ages.{isAge}
+use Rattle.reading.specs.Cut.{lacking}
 use Rattle.reading.specs.Reading.{ifWhole, ifAge}
 use Rattle.marking.specs.Marks.{markBetween, lettersIn, marksOf, marksOutcome, heldBack, heldOf}
 
@@ -41,8 +42,8 @@ pub examples :
     -- 3, 1, 2, then 5
     × (marksOutcome 33 [] (7 ∷ []) ≡ refused Refusal.NotAnAge (7 ∷ []))
     × (marksOutcome 64 [] (7 ∷ []) ≡ refused Refusal.FewerThan16 (7 ∷ []))
-    × (marksOutcome 64 (17 ∷ replicate 15 0) (7 ∷ []) ≡ refused Refusal.FewerThanSize (7 ∷ []))
+    × (marksOutcome 64 (17 ∷ replicate 15 0) (7 ∷ []) ≡ refused Refusal.UndecodedCut (7 ∷ []))
     × (marksOutcome 64 listed (replicate 13 7) ≡ refused Refusal.ShortBuffer (replicate 13 7))
     × (marksOutcome 64 listed (replicate 15 7) ≡ wrote (ascii "FFFAAAAAAAAAAA") (replicate 15 7))
-unfolding ifWhole ifAge isAge heldBack lettersIn markBetween written
+unfolding ifWhole lacking ifAge isAge heldBack lettersIn markBetween written
 examples = (refl, refl, refl, refl, refl, refl, refl, refl, refl, refl, refl, refl, refl, refl, refl, refl, refl)

@@ -1,12 +1,12 @@
 -- Any two outcomes that a contract of this crate allows for the same input are one. Assumes nothing.
 use Prim.Native.Nat.{ℕ, zero, suc}
-use mathlib.Core.Path.{_≡_, refl, sym, _∙_}
+use mathlib.Core.Path.{_≡_, sym, _∙_}
 use mathlib.Core.Bool.{Bool}
 use mathlib.Core.List.{List}
 use Rattle.answers.specs.declared.Told.{Told}
 use Rattle.answers.specs.declared.Written.{Written}
 use Rattle.answers.proofs.OneOutcome.{one-answer}
-use Rattle.answers.proofs.OneToOne.{back, refused-back, tells-one}
+use Rattle.answers.proofs.OneToOne.{back, ok-back, refused-back, tells-one}
 use Rattle.buffer.specs.Written.{outcome}
 use Rattle.buffer.proofs.OneOutcome.{one-outcome}
 use Rattle.marking.specs.declared.Held.{Held}
@@ -23,10 +23,10 @@ answered zero = Held.No
 answered (suc n) = Held.Yes
 
 -- each answer comes back from what it tells
-held-back : (r : Held) → back answered Held.Refused (heldTells r .number) (heldTells r .amount) ≡ r
-unfolding back answered
-held-back Held.No = refl
-held-back Held.Yes = refl
+held-back : (r : Held) → back answered Held.Refused (heldTells r) ≡ r
+unfolding answered
+held-back Held.No = ok-back answered Held.Refused 0
+held-back Held.Yes = ok-back answered Held.Refused 1
 held-back (Held.Refused why) = refused-back answered Held.Refused why
 
 -- of `held_back`: the answer is fixed

@@ -27,10 +27,10 @@ pub record Late (a : ℕ) (s : List ℕ) : Type 0 where
 abbrev pub HeldWhenLate : ℕ → List ℕ → Type 0
 HeldWhenLate a s = (heldBack a s ≡ true) ↔ Late a s
 
--- `marks` and, from an offset on, `marks_at`: 3, 1, 2, 5
+-- `marks` and, from an offset on, `marks_at`: 3, 1, 2 or 8, 5
 abbrev pub MarksRefuse : ℕ → List ℕ → List ℕ → Type 0
 MarksRefuse a s old = Refuses (notAnAge a ∷ fewerThan16 s ∷ fewerThanSize s ∷ shorterThan 14 old ∷ []) old (marksOutcome a s old)
 
--- `held_back`: 3, 1, 2
+-- `held_back`: 3, 1, 2 or 8
 abbrev pub HeldRefuses : ℕ → List ℕ → Type 0
 HeldRefuses a s = Exactly (notAnAge a ∷ fewerThan16 s ∷ fewerThanSize s ∷ []) (heldOf a s)

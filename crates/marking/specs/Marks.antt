@@ -48,7 +48,7 @@ markOf a s f = markIn a (taken s) s f
 abbrev pub marksOf : ℕ → List ℕ → List ℕ
 marksOf a s = lettersIn a (taken s) s
 
--- writing the marks: 3, 1, 2, then 5
+-- writing the marks: 3, 1, 2 or 8, then 5
 abbrev pub marksOutcome : ℕ → List ℕ → List ℕ → Outcome
 marksOutcome a s old = ifAge a (λ why. refused why old) (ifWhole s (λ why. refused why old) (written (marksOf a s) old))
 
@@ -66,7 +66,7 @@ heldTells Held.No = success 0
 heldTells Held.Yes = success 1
 heldTells (Held.Refused why) = refusal why
 
--- asking whether a record is held back: 3, 1, 2, then yes or no
+-- asking whether a record is held back: 3, 1, 2 or 8, then yes or no
 abbrev pub heldOf : ℕ → List ℕ → Told
 heldOf a s =
     ifAge a refusal

@@ -53,14 +53,8 @@ impl Held {
         ensures { λ r. ⌜ r ≡ heldTells self ⌝ }
     {
         match self {
-            Self::No => Told {
-                number: 0,
-                amount: 0,
-            },
-            Self::Yes => Told {
-                number: 0,
-                amount: 1,
-            },
+            Self::No => Told::success(0),
+            Self::Yes => Told::success(1),
             Self::Refused(why) => why.told(),
         }
     }

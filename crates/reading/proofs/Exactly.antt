@@ -31,15 +31,15 @@ module _ {A : Type 0} {row : List Condition} {refuse : Refusal → A} {give o : 
 gives-exactly : {row : List Condition} {n : ℕ} {r : ResTableConfig} {o : ParseOutcome} → Goes row parseRefused (parseTook n r) o → Exactly row (o .tells)
 gives-exactly {n = n} {r = r} g = row-exactly (λ (o : ParseOutcome). o .tells) parseRefused (parseTook n r) (λ why. refl) refl g
 
--- `take`: 1, 2
+-- `take`: 1, 2 or 8
 pub take-exactly : (s : List ℕ) → TakeRefuses s
 take-exactly s = told-exactly (whole-row s none-left)
 
--- `parse`: 1, 2
+-- `parse`: 1, 2 or 8
 pub parse-exactly : (s : List ℕ) → ParseRefuses s
 parse-exactly s = gives-exactly (whole-row s none-left)
 
--- `parse_aged`: 3, 1, 2
+-- `parse_aged`: 3, 1, 2 or 8
 pub aged-exactly : (a : ℕ) (s : List ℕ) → AgedRefuses a s
 aged-exactly a s = gives-exactly (age-row a (whole-row s none-left))
 

@@ -2,7 +2,10 @@ pub mod Records
 pub mod FieldBytes
 pub mod Limits
 pub mod Shapes
+pub mod Cut
 pub mod Whole
+pub mod CutExactly
+pub mod Former
 pub mod OneOutcome
 pub mod Exactly
 pub mod TwoAges

@@ -11,8 +11,9 @@ use borrow.Author.Tests.{lt-ltb, le-ltb}
 use Rattle.answers.specs.declared.Refusal.{Refusal}
 use Rattle.answers.specs.declared.Told.{Told}
 use Rattle.answers.specs.Tells.{success, refusal}
-use Rattle.answers.proofs.OneToOne.{number-one, number-pos}
+use Rattle.answers.proofs.OneToOne.{told-one, number-pos}
 use Rattle.record.specs.Ages.{isAge}
+use Rattle.reading.specs.Cut.{lacking}
 use Rattle.reading.specs.Reading.{ifWhole, ifAge, sizeOf, taken, takeOf}
 
 -- what stands at the front of some bytes: too few for any record, a record that is cut, or one that is whole
@@ -38,7 +39,7 @@ module _ {A : Type 0} (s : List ℕ) (refuse : Refusal → A) (give : A) where
   whole-short h = rw (lt-ltb (length s) 16 h)
 
   -- 16 bytes or more, and fewer than size
-  pub whole-cut : 16 ≤ length s → length s < sizeOf s → ifWhole s refuse give ≡ refuse Refusal.FewerThanSize
+  pub whole-cut : 16 ≤ length s → length s < sizeOf s → ifWhole s refuse give ≡ refuse (lacking (length s) (sizeOf s))
   unfolding ifWhole
   whole-cut h g = rw (le-ltb (length s) 16 h, lt-ltb (length s) (sizeOf s) g)
 
@@ -59,7 +60,7 @@ pub whole-map : {A B : Type 0} (f : A → B) (s : List ℕ) (refuse : Refusal �
     → f (ifWhole s refuse give) ≡ ifWhole s (λ why. f (refuse why)) (f give)
 unfolding ifWhole
 whole-map f s refuse give =
-    rw (cond-map f (ltb (length s) 16) (refuse Refusal.FewerThan16) _, cond-map f (ltb (length s) (sizeOf s)) (refuse Refusal.FewerThanSize) give)
+    rw (cond-map f (ltb (length s) 16) (refuse Refusal.FewerThan16) _, cond-map f (ltb (length s) (sizeOf s)) (refuse (lacking (length s) (sizeOf s))) give)
 
 pub age-map : {A B : Type 0} (f : A → B) (a : ℕ) (refuse : Refusal → A) (give : A)
     → f (ifAge a refuse give) ≡ ifAge a (λ why. f (refuse why)) (f give)
@@ -88,7 +89,7 @@ pub took-says : (s : List ℕ) (n : ℕ) → success n ≡ takeOf s → (n ≡ t
 took-says s n e =
     elim (front s) [
       | short h ↦ absurd (let z = told-number (e ∙ whole-short s _ _ h) in omega arith)
-      | cut h g ↦ absurd (let z = told-number (e ∙ whole-cut s _ _ h g) in omega arith)
+      | cut h g ↦ absurd (let z = told-number (e ∙ whole-cut s _ _ h g) in omega (arith, number-pos (lacking (length s) (sizeOf s))))
       | whole h ↦ (ap (λ (t : Told). t .amount) (e ∙ whole-took s _ _ h), h)
     ]
 
@@ -100,8 +101,8 @@ took-whole s refuse give n e = whole-took s refuse give (took-says s n e .1)
 pub refused-whole : {A : Type 0} (s : List ℕ) (refuse : Refusal → A) (give : A) (why : Refusal) → refusal why ≡ takeOf s → ifWhole s refuse give ≡ refuse why
 refused-whole s refuse give why e =
     elim (front s) [
-      | short h ↦ whole-short s refuse give h ∙ ap refuse (number-one Refusal.FewerThan16 why (sym (told-number (e ∙ whole-short s _ _ h))))
-      | cut h g ↦ whole-cut s refuse give h g ∙ ap refuse (number-one Refusal.FewerThanSize why (sym (told-number (e ∙ whole-cut s _ _ h g))))
+      | short h ↦ whole-short s refuse give h ∙ ap refuse (told-one Refusal.FewerThan16 why (sym (e ∙ whole-short s _ _ h)))
+      | cut h g ↦ whole-cut s refuse give h g ∙ ap refuse (told-one (lacking (length s) (sizeOf s)) why (sym (e ∙ whole-cut s _ _ h g)))
       | whole h ↦ absurd (let z = told-number (e ∙ whole-took s _ _ h) in omega (arith, number-pos why))
     ]
 
@@ -114,6 +115,6 @@ pub taking : (s : List ℕ) → Taking s
 taking s =
     elim (front s) [
       | short h ↦ Taking.refuses Refusal.FewerThan16 (sym (whole-short s _ _ h))
-      | cut h g ↦ Taking.refuses Refusal.FewerThanSize (sym (whole-cut s _ _ h g))
+      | cut h g ↦ Taking.refuses (lacking (length s) (sizeOf s)) (sym (whole-cut s _ _ h g))
       | whole h ↦ Taking.takes (taken s) (took-is s (taken s) refl h)
     ]

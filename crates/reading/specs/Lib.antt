@@ -1,3 +1,4 @@
+pub mod Cut
 pub mod Reading
 pub mod ReadTo
 pub mod Demand1

@@ -12,6 +12,7 @@ use Rattle.record.specs.Ages.{isAge}
 use Rattle.record.specs.Blank.{blankRecord}
 use Rattle.record.specs.Table.{startOf, endOf, widthOf, part, le, allZero, bytesTaken}
 use Rattle.reading.specs.declared.Parsed.{Parsed}
+use Rattle.reading.specs.Cut.{lacking}
 
 -- the first four fields are always read; a later field is read exactly when its end is at most size
 unfoldable pub reads : ℕ → ℕ → Bool
@@ -62,12 +63,12 @@ plain s = recordBy (reads (sizeOf s)) s
 unfoldable pub aged : ℕ → List ℕ → ResTableConfig
 aged a s = recordBy (readsAt a (sizeOf s)) s
 
--- what is given where a whole record stands at the front of s; 1 comes when there are fewer than 16 bytes, 2 when 16 or more,
--- fewer than size
+-- what is given where a whole record stands at the front of s; 1 comes when there are fewer than 16 bytes; 2 or 8, by what is
+-- lacking, when 16 or more, fewer than size
 unfoldable pub ifWhole : {A : Type 0} → List ℕ → (Refusal → A) → A → A
 ifWhole s refuse give =
     cond (ltb (length s) 16) (refuse Refusal.FewerThan16)
-    (cond (ltb (length s) (sizeOf s)) (refuse Refusal.FewerThanSize) give)
+    (cond (ltb (length s) (sizeOf s)) (refuse (lacking (length s) (sizeOf s))) give)
 
 -- what is given where a is an age; 3 comes when it is not among the twelve
 unfoldable pub ifAge : {A : Type 0} → ℕ → (Refusal → A) → A → A

@@ -6,9 +6,11 @@ use answers::Taken;
 use record::Age;
 use record::ResTableConfig;
 use record::blank;
+use record::field_end;
 ghost use mathlib.Core.Path.{_≡_};
 ghost use Prim.Native.Nat.{min};
 ghost use Rattle.answers.specs.Tells.{takenTells};
+ghost use Rattle.reading.specs.Cut.{cutAt, lacking};
 ghost use Rattle.reading.specs.Reading.{aged, takeOf, ifWhole, parseAged, parseOf, parseRefused, parseTook, parsedOutcome, taken};
 ghost use Rattle.reading.specs.ReadTo.{readTo};
 
@@ -16,6 +18,28 @@ ghost use Rattle.reading.specs.ReadTo.{readTo};
 pub struct Parsed {
     pub answer: Taken,
     pub record: ResTableConfig,
+}
+
+// Whether a field is cut in n bytes of a record of a size: the size holds it, and it ends past them.
+fn is_cut(n: usize, size: usize, f: usize) -> bool
+    ensures { λ r. ⌜ r ≡ cutAt n size f ⌝ }
+{
+    let end = field_end(f);
+    end <= size && n < end
+}
+
+// Why n bytes are no record of a size, where they are fewer: a field is cut, or only undecoded bytes are lacking.
+fn lacking(n: usize, size: usize) -> Refusal
+    ensures { λ r. ⌜ r ≡ lacking n size ⌝ }
+{
+    let mut row = 0;
+    while row < 15 {
+        if is_cut(n, size, row) {
+            return Refusal::FieldCut(row);
+        }
+        row += 1;
+    }
+    Refusal::UndecodedCut
 }
 
 // How many bytes the record at the front of bytes takes.
@@ -27,7 +51,7 @@ pub fn take(bytes: &[u8]) -> Taken
     }
     let size = fields::word(bytes, 0) as usize;
     if bytes.len() < size {
-        return Taken::Refused(Refusal::FewerThanSize);
+        return Taken::Refused(lacking(bytes.len(), size));
     }
     if size < 16 {
         Taken::Took(16)

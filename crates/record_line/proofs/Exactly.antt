@@ -7,6 +7,6 @@ use Rattle.reading.proofs.Exactly.{whole-row, age-row}
 use Rattle.record_line.specs.RecordLine.{recordLine}
 use Rattle.record_line.specs.Demand1.{RecordLineRefuses}
 
--- `record_line`: 3, 1, 2, 5
+-- `record_line`: 3, 1, 2 or 8, 5
 pub record-line-exactly : (a i p : ℕ) (s old : List ℕ) → RecordLineRefuses a i p s old
 record-line-exactly a i p s old = refuses-by refl (age-row a (whole-row s (written-row (recordLine a i p s) old)))

@@ -16,6 +16,7 @@ use Rattle.locale.specs.Subtags.{localeSubtags}
 use Rattle.places.specs.Say.{say, dashAfter, sayAll}
 use Rattle.places.specs.Places.{placesOf, textOf}
 use Rattle.record.specs.Ages.{isAge}
+use Rattle.reading.specs.Cut.{lacking}
 use Rattle.reading.specs.Reading.{reads, fieldBy, recordBy, aged, ifWhole, ifAge}
 use Rattle.marking.specs.Marks.{markBetween, lettersIn, heldBack}
 use Rattle.record_line.specs.RecordLine.{visible, escaped, escapedAll, shownWords, newline, laidOut, recordLine, recordLineOf}
@@ -31,10 +32,10 @@ pub examples :
     -- 3 before 1; 1, 2, and 5 with a buffer of a byte too few; with a byte more than it takes, that byte stays
     × (recordLineOf 33 0 0 [] (7 ∷ []) ≡ refused Refusal.NotAnAge (7 ∷ []))
     × (recordLineOf 64 0 0 (replicate 15 0) (7 ∷ []) ≡ refused Refusal.FewerThan16 (7 ∷ []))
-    × (recordLineOf 64 0 0 (17 ∷ replicate 15 0) (7 ∷ []) ≡ refused Refusal.FewerThanSize (7 ∷ []))
+    × (recordLineOf 64 0 0 (17 ∷ replicate 15 0) (7 ∷ []) ≡ refused Refusal.UndecodedCut (7 ∷ []))
     × (recordLineOf 64 1 16 (replicate 16 0) (replicate 26 7) ≡ refused Refusal.ShortBuffer (replicate 26 7))
     × (recordLineOf 64 1 16 (replicate 16 0) (replicate 28 7) ≡ wrote (ascii "1 16 0 BBBAAAAAAAAAAA %- 0" ++ newline) (replicate 28 7))
-unfolding laidOut shownWords escapedAll escaped visible written lettersIn markBetween heldBack isAge ifAge ifWhole aged recordBy
+unfolding laidOut shownWords escapedAll escaped visible written lettersIn markBetween heldBack isAge ifAge ifWhole lacking aged recordBy
     fieldBy reads textOf placesOf sayAll say dashAfter localeWords newWords legacyWords unpacked subtagOf dropNuls keep replaced
     replacedBy replacements illFormedBy localeSubtags frontOf okAt decimal digits
 examples = (refl, refl, refl, refl, refl, refl, refl)

@@ -64,7 +64,7 @@ abbrev pub recordLine : ℕ → ℕ → ℕ → List ℕ → List ℕ
 recordLine a i p s =
     laidOut i p (sizeOf s) (marksOf a s) (shownUnless (heldBack a s) (textOf (aged a s))) (replacementsUnless (heldBack a s) (textReplacements (aged a s)))
 
--- a call for that line: 3, 1, 2, then 5
+-- a call for that line: 3, 1, 2 or 8, then 5
 abbrev pub recordLineOf : ℕ → ℕ → ℕ → List ℕ → List ℕ → Outcome
 recordLineOf a i p s old =
     ifAge a (λ why. refused why old) (ifWhole s (λ why. refused why old) (written (recordLine a i p s) old))

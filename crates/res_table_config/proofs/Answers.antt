@@ -1,5 +1,5 @@
 -- What each entry answers, from what the calls under it answer. Assumes nothing.
-use Prim.Native.Nat.{ℕ, _≤_, _<_}
+use Prim.Native.Nat.{ℕ, _≤_}
 use mathlib.Core.Path.{_≡_, sym, ap, _∙_}
 use mathlib.Core.List.{List}
 use lib.ListN.{length}
@@ -19,12 +19,12 @@ use Rattle.res_table_config.specs.Small.{Small}
 use Rattle.res_table_config.proofs.Small.{ordering-most}
 
 -- what is told has room in an answer
-pub fits : (t u : Told) → t ≡ u → Small u → t .amount < 4294967296
-fits t u e small = rw e (small .amount)
+pub fits : (t u : Told) → t ≡ u → Small u → Small t
+fits t u e small = rw e small
 
 -- of a call that writes: o is its outcome
 module _ (w : Written) (new : List ℕ) (o : Outcome) (t : Told) (e : outcome w new ≡ o) (f : t ≡ writtenTells w) where
-  pub written-fits : Small (o .tells) → t .amount < 4294967296
+  pub written-fits : Small (o .tells) → Small t
   written-fits = fits t (o .tells) (f ∙ ap (λ (x : Outcome). x .tells) e)
 
   pub written-told : (r : ℕ) → answerTells r ≡ t → answerOutcome r new ≡ o

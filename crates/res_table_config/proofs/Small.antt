@@ -1,14 +1,15 @@
--- What the calls tell has a number below 8 and an amount below 2^32, so nothing of it is lost in an answer; and a refusal has
--- amount 0. Assumes nothing.
+-- What the calls tell is small, so nothing of it is lost in an answer. Assumes nothing.
 use Prim.Native.Nat.{ℕ, _≤_, _<_}
-use mathlib.Core.Path.{refl}
+use mathlib.Core.Path.{refl, ap}
 use mathlib.Core.List.{List}
 use native.Mathlib.Omega.{arith}
-use lib.Dec.{leb, lit<}
+use lib.Dec.{leb, lit<, lit≤}
 use lib.ListN.{length}
 use Rattle.answers.specs.declared.Refusal.{Refusal}
+use Rattle.answers.specs.declared.Told.{Told}
+use Rattle.answers.specs.Numbers.{carriedBy}
 use Rattle.answers.specs.Tells.{success, refusal}
-use Rattle.answers.proofs.OneToOne.{number-most}
+use Rattle.answers.proofs.OneToOne.{number-pos, number-most}
 use Rattle.laws.proofs.Choice.{chosen}
 use Rattle.buffer.specs.Written.{Outcome, written}
 use Rattle.order.specs.declared.Ordering.{Ordering}
@@ -16,6 +17,7 @@ use Rattle.record.specs.Ages.{isAge}
 use Rattle.order.specs.Order.{orderOf, orderingTells}
 use Rattle.record.specs.Table.{Bytes}
 use Rattle.reading.specs.Reading.{ifWhole, ifAge, takeOf, plain, aged, taken}
+use Rattle.reading.proofs.CutExactly.{carried-most}
 use Rattle.reading.proofs.Whole.{taking, takes, refuses, took-says, took-whole, refused-whole}
 use Rattle.marking.specs.Marks.{marksOf, marksOutcome, heldBack}
 use Rattle.marking.proofs.Marking.{marks-length}
@@ -26,24 +28,33 @@ use Rattle.text.proofs.Ranges.{part-below, plain-long, aged-long, aged-most}
 use Rattle.res_table_config.specs.Face.{orderTold}
 use Rattle.res_table_config.specs.Small.{Small}
 
-refusal-small : (why : Refusal) → Small (refusal why)
-refusal-small why = record { number = omega (arith, number-most why); amount = lit< tt; bare = λ d. refl }
+refusal-small : (why : Refusal) → carriedBy why ≤ 14 → Small (refusal why)
+refusal-small why h =
+    record {
+      number = omega (arith, number-most why);
+      amount = lit< tt;
+      bare = λ d. refl;
+      carried = h;
+      clear = λ e. absurd (omega (arith, number-pos why));
+    }
 
 success-small : (n : ℕ) → n < 4294967296 → Small (success n)
-success-small n h = record { number = lit< tt; amount = h; bare = λ d. absurd (d refl) }
+success-small n h = record { number = lit< tt; amount = h; bare = λ d. absurd (d refl); carried = lit≤ tt; clear = λ e. refl }
 
 -- what holds of the refusals, and of what a whole record gives, holds of the call
-module _ {A : Type 0} (P : A → Type 0) (refuse : Refusal → A) (give : A) (bad : (why : Refusal) → P (refuse why)) where
+module _ {A : Type 0} (P : A → Type 0) (refuse : Refusal → A) (give : A) (bad : (why : Refusal) → carriedBy why ≤ 14 → P (refuse why)) where
   by-whole : (s : List ℕ) → (taken s ≤ length s → P give) → P (ifWhole s refuse give)
   by-whole s good =
       elim (taking s) [
         | takes n e ↦ rw (took-whole s refuse give n e) (good (took-says s n e .1))
-        | refuses why e ↦ rw (refused-whole s refuse give why e) (bad why)
+        | refuses why e ↦
+            let same = ap (λ (t : Told). t .carried) e in
+            rw (refused-whole s refuse give why e) (bad why (omega (arith, carried-most s)))
       ]
 
   by-age : (a : ℕ) → P give → P (ifAge a refuse give)
   unfolding ifAge
-  by-age a good = chosen P (isAge a) good (bad Refusal.NotAnAge)
+  by-age a good = chosen P (isAge a) good (bad Refusal.NotAnAge (lit≤ tt))
 
 -- what a call that writes tells
 abbrev Tells : Outcome → Type 0
@@ -52,7 +63,7 @@ Tells o = Small (o .tells)
 written-small : (w old : List ℕ) → length w < 4294967296 → Tells (written w old)
 unfolding written
 written-small w old h =
-    chosen Tells (leb (length w) (length old)) (success-small (length w) h) (refusal-small Refusal.ShortBuffer)
+    chosen Tells (leb (length w) (length old)) (success-small (length w) h) (refusal-small Refusal.ShortBuffer (lit≤ tt))
 
 -- of taking: size is a word of 32 bits
 pub take-small : (s : List ℕ) → Bytes s → Small (takeOf s)
@@ -69,14 +80,14 @@ pub aged-small : (a : ℕ) (s old : List ℕ) → Bytes s → Small (agedText a 
 aged-small a s old bytes =
     by-age Tells _ _ refusal-small a
     (by-whole Tells _ _ refusal-small s
-    (λ whole. chosen Tells (heldBack a s) (refusal-small Refusal.HeldBack) (written-small (textOf (aged a s)) old (omega (arith, aged-long a s bytes)))))
+    (λ whole. chosen Tells (heldBack a s) (refusal-small Refusal.HeldBack (lit≤ tt)) (written-small (textOf (aged a s)) old (omega (arith, aged-long a s bytes)))))
 
 -- of the replacements in a text: there are 24 at the most
 pub replaced-small : (a : ℕ) (s : List ℕ) → Bytes s → Small (replacementsOf a s)
 replaced-small a s bytes =
     by-age Small _ _ refusal-small a
     (by-whole Small _ _ refusal-small s
-    (λ whole. chosen Small (heldBack a s) (refusal-small Refusal.HeldBack) (success-small _ (omega (arith, aged-most a s bytes)))))
+    (λ whole. chosen Small (heldBack a s) (refusal-small Refusal.HeldBack (lit≤ tt)) (success-small _ (omega (arith, aged-most a s bytes)))))
 
 -- of marks: there are fourteen
 pub marks-small : (a : ℕ) (s old : List ℕ) → Small (marksOutcome a s old .tells)

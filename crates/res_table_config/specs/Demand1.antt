@@ -5,6 +5,6 @@ use Rattle.answers.specs.Demand1.{Exactly}
 use Rattle.reading.specs.Demand1.{fewerThan16, fewerThanSize}
 use Rattle.res_table_config.specs.Face.{orderTold}
 
--- `res_table_config_order`: 1, 2 of the first, then 1, 2 of the second
+-- `res_table_config_order`: 1, 2 or 8 of the first, then 1, 2 or 8 of the second
 abbrev pub OrderRefuses : List ℕ → List ℕ → Type 0
 OrderRefuses a b = Exactly (fewerThan16 a ∷ fewerThanSize a ∷ fewerThan16 b ∷ fewerThanSize b ∷ []) (orderTold a b)

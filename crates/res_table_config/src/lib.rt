@@ -1,7 +1,8 @@
 // The C face: six calls on numbers and byte slices, for the intake tool. A slice arrives as a pointer and then a length.
 //
-// Each answers one number: 01's number times 2^32, and the amount. So a success is below 2^32, and a refusal has amount 0.
-// A refusal changes no lent byte. Ages arrive as plain numbers.
+// Each answers one number: 01's number times 2^32, and the amount of a success or what a refusal carries. So a success is below 2^32,
+// and of the refusals 2 alone has more than its number: the row of the field that is cut. A refusal changes no lent byte. Ages arrive
+// as plain numbers.
 use answers::Told;
 use marking::marks;
 use order::cmp;
@@ -12,13 +13,13 @@ use text::aged_text;
 use text::plain_text;
 use text::replacements;
 ghost use mathlib.Core.Path.{_≡_};
-ghost use Prim.Native.Nat.{_<_};
 ghost use Rattle.marking.specs.Marks.{marksOutcome};
 ghost use Rattle.reading.specs.Reading.{takeOf};
 ghost use Rattle.record.specs.Table.{Bytes};
 ghost use Rattle.text.specs.Counted.{replacementsOf};
 ghost use Rattle.text.specs.Text.{agedText, plainText};
 ghost use Rattle.res_table_config.specs.Face.{answerOutcome, answerTells, orderTold};
+ghost use Rattle.res_table_config.specs.Small.{Small};
 
 // What the type of a slice says of its elements, for the callers' proofs: it does nothing.
 fn are_bytes(bytes: &[u8])
@@ -27,7 +28,7 @@ fn are_bytes(bytes: &[u8])
 
 // What a call tells as one number, from which it comes back.
 fn packed(told: Told) -> u64
-    requires { ⌜ told .amount < 4294967296 ⌝ }
+    requires { ⌜ Small told ⌝ }
     ensures { λ r. ⌜ answerTells r ≡ told ⌝ }
 {
     told.packed()

@@ -36,7 +36,7 @@ good : (test : Bool) (p n : ℕ) (r : ResTableConfig) → cond test (stepStays p
 good true p n r = refl
 good false p n r = refl
 
--- `step_at`: 3; at the exact end none; 1, 2
+-- `step_at`: 3; at the exact end none; 1, 2 or 8
 pub step-exactly : (a : ℕ) (s : List ℕ) (p : ℕ) → StepRefuses a s p
 unfolding stepOf frontAt
 step-exactly a s p =

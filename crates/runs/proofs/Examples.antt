@@ -6,6 +6,7 @@ use lib.ListN.{replicate}
 use Rattle.answers.specs.declared.Refusal.{Refusal}
 use Rattle.answers.specs.Tells.{success, refusal}
 use Rattle.record.specs.Ages.{isAge}
+use Rattle.reading.specs.Cut.{lacking}
 use Rattle.reading.specs.Reading.{ifAge, ifWhole}
 use Rattle.runs.specs.declared.Stop.{Stop}
 use Rattle.runs.specs.Fronts.{offsetsIn, stopIn}
@@ -20,11 +21,13 @@ pub examples :
     × (runOf run 0 ≡ record { records = 2; offset = 32; stop = Stop.Refused Refusal.FewerThan16 })
     × (runOf run 16 ≡ record { records = 1; offset = 32; stop = Stop.Refused Refusal.FewerThan16 })
     × (runOf (replicate 48 0) 0 ≡ record { records = 3; offset = 48; stop = Stop.Ended })
-    × (runOf (replicate 16 0 ++ (17 ∷ replicate 15 0)) 0 ≡ record { records = 1; offset = 16; stop = Stop.Refused Refusal.FewerThanSize })
+    × (runOf (replicate 16 0 ++ (17 ∷ replicate 15 0)) 0 ≡ record { records = 1; offset = 16; stop = Stop.Refused Refusal.UndecodedCut })
+    × (runOf (replicate 16 0 ++ (64 ∷ replicate 39 0)) 0 ≡ record { records = 1; offset = 16; stop = Stop.Refused (Refusal.FieldCut 10) })
     × (runOf [] 0 ≡ record { records = 0; offset = 0; stop = Stop.Ended })
     × (runOf run 99 ≡ record { records = 0; offset = 99; stop = Stop.Refused Refusal.FewerThan16 })
     × (stepOf 42 run 0 ≡ stepStays 0 (refusal Refusal.NotAnAge))
     × (stepOf 16 run 35 ≡ stepStays 35 (success 0))
+    × (stepOf 16 (20 ∷ replicate 15 0) 0 ≡ stepStays 0 (refusal (Refusal.FieldCut 4)))
     × (stepOf 16 run 36 ≡ stepStays 36 (refusal Refusal.FewerThan16))
-unfolding offsetsIn stopIn frontAt stepOf ifWhole ifAge isAge
-examples = (refl, refl, refl, refl, refl, refl, refl, refl, refl, refl)
+unfolding offsetsIn stopIn frontAt stepOf ifWhole lacking ifAge isAge
+examples = (refl, refl, refl, refl, refl, refl, refl, refl, refl, refl, refl, refl)

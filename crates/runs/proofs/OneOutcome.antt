@@ -1,6 +1,6 @@
 -- Any two outcomes that a contract of this crate allows for the same input are one. Assumes nothing.
 use Prim.Native.Nat.{ℕ, zero, suc}
-use mathlib.Core.Path.{_≡_, refl, sym, ap, _∙_}
+use mathlib.Core.Path.{_≡_, sym, ap, _∙_}
 use mathlib.Core.List.{List}
 use lib.ListN.{drop}
 use Rattle.answers.specs.declared.Counted.{Counted}
@@ -8,7 +8,7 @@ use Rattle.answers.specs.declared.Refusal.{Refusal}
 use Rattle.answers.specs.declared.Told.{Told}
 use Rattle.answers.specs.declared.Written.{Written}
 use Rattle.answers.proofs.OneOutcome.{one-answer}
-use Rattle.answers.proofs.OneToOne.{back, refused-back, tells-one}
+use Rattle.answers.proofs.OneToOne.{back, ok-back, refused-back, tells-one}
 use Rattle.buffer.specs.Counted.{countedOutcome}
 use Rattle.buffer.specs.Written.{outcome}
 use Rattle.buffer.proofs.OneOutcome.{one-outcome, one-counted}
@@ -32,10 +32,10 @@ abbrev refused : Refusal → Step
 refused why = Step.Stopped (Stop.Refused why)
 
 -- each answer comes back from what it tells
-step-back : (r : Step) → back answered refused (stepTells r .number) (stepTells r .amount) ≡ r
-unfolding back answered
-step-back Step.Found = refl
-step-back (Step.Stopped Stop.Ended) = refl
+step-back : (r : Step) → back answered refused (stepTells r) ≡ r
+unfolding answered
+step-back Step.Found = ok-back answered refused 1
+step-back (Step.Stopped Stop.Ended) = ok-back answered refused 0
 step-back (Step.Stopped (Stop.Refused why)) = refused-back answered refused why
 
 -- two answers that tell the same are one

@@ -4,15 +4,17 @@ use mathlib.Core.Path.{_≡_, refl, sym, ap, _∙_}
 use mathlib.Core.Bool.{Bool, true, false}
 use mathlib.Core.List.{List}
 use native.Mathlib.Omega.{arith}
-use lib.Dec.{eqb}
+use lib.Dec.{eqb, lit≤}
 use lib.ListN.{length, drop, getD, length-drop}
 use borrow.Author.Tests.{eq-eqb, ne-eqb, eqb-true, eqb-false}
 use Rattle.answers.specs.declared.Refusal.{Refusal}
+use Rattle.answers.specs.declared.Told.{Told}
 use Rattle.answers.specs.Tells.{success, refusal}
 use Rattle.record.specs.declared.ResTableConfig.{ResTableConfig}
 use Rattle.record.specs.Ages.{isAge}
 use Rattle.record.specs.Blank.{blankRecord}
 use Rattle.reading.specs.Reading.{takeOf, taken, aged, ifWhole}
+use Rattle.reading.proofs.CutExactly.{carried-most}
 use Rattle.reading.proofs.Whole.{taking, takes, refuses, age-known, age-unknown, took-says, took-whole, refused-whole, whole-short, took-is}
 use Rattle.runs.specs.declared.Stop.{Stop}
 use Rattle.runs.specs.declared.Front.{Front}
@@ -96,6 +98,18 @@ front-none s p stop e =
       | takes n h ↦ absurd (let t = took-says (drop p s) n h in not-both stop _ (sym e ∙ front-whole s p (t .1)))
       | refuses why h ↦ record { why = why; refused = h }
     ]
+
+-- what a stop carries is a row, or nothing
+pub stop-carries : (s : List ℕ) (p : ℕ) → stopTells (stopAt (frontAt s) p) .carried ≤ 14
+stop-carries s p = by (eqb p (length s)) refl where
+  by : (b : Bool) → eqb p (length s) ≡ b → stopTells (stopAt (frontAt s) p) .carried ≤ 14
+  by true t = rw (front-ended s p (eqb-true p (length s) t)) (lit≤ tt)
+  by false t =
+      let inside = eqb-false p (length s) t in
+      elim (taking (drop p s)) [
+        | takes m h ↦ rw (front-took s p inside m h) (lit≤ tt)
+        | refuses why h ↦ rw (front-refused s p inside why h) (let e = ap (λ (told : Told). told .carried) h in omega (arith, carried-most (drop p s)))
+      ]
 
 -- the bound of n / 16 records cuts no run short
 pub run-stopped : (s : List ℕ) (p : ℕ) → Stopped (frontAt s) (stopOf s p)

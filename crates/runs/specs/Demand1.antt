@@ -7,7 +7,7 @@ use Rattle.answers.specs.Demand1.{unless, Exactly}
 use Rattle.reading.specs.Demand1.{fewerThan16, fewerThanSize, notAnAge}
 use Rattle.runs.specs.Runs.{stepOf}
 
--- `step_at` and the run reader's `next`: 3; at the exact end none; 1, 2
+-- `step_at` and the run reader's `next`: 3; at the exact end none; 1, 2 or 8
 abbrev pub StepRefuses : ℕ → List ℕ → ℕ → Type 0
 StepRefuses a s p =
     Exactly

@@ -65,10 +65,7 @@ impl Stop {
         ensures { λ r. ⌜ r ≡ stopTells self ⌝ }
     {
         match self {
-            Self::Ended => Told {
-                number: 0,
-                amount: 0,
-            },
+            Self::Ended => Told::success(0),
             Self::Refused(why) => why.told(),
         }
     }
@@ -80,10 +77,7 @@ impl Step {
         ensures { λ r. ⌜ r ≡ stepTells self ⌝ }
     {
         match self {
-            Self::Found => Told {
-                number: 0,
-                amount: 1,
-            },
+            Self::Found => Told::success(1),
             Self::Stopped(stop) => stop.told(),
         }
     }

@@ -1,6 +1,5 @@
 // What the benchmark and the comparison at scale call of the port beyond the C face, each from bytes and answering one number.
 use answers::Taken;
-use answers::Told;
 use answers::Written;
 use lines::Cursor;
 use lines::first;
@@ -12,6 +11,7 @@ use reading::take;
 use record::Age;
 use record::ResTableConfig;
 use record::blank;
+use record_line::record_line;
 use runs::walk;
 use text::plain_text;
 use writing::write;
@@ -20,10 +20,11 @@ ghost use Rattle.buffer.specs.Written.{outcome};
 ghost use Rattle.lines.specs.Lines.{lineOf};
 ghost use Rattle.reading.specs.Reading.{parseOf};
 ghost use Rattle.record.specs.Blank.{blankRecord, withSize};
+ghost use Rattle.record_line.specs.RecordLine.{recordLineOf};
 ghost use Rattle.order.specs.Order.{equalOf, orderOf, orderingTells};
 ghost use Rattle.runs.specs.Runs.{runOf};
 ghost use Rattle.text.specs.Text.{plainText};
-ghost use Rattle.test_probe.specs.Probe.{Comes, cursorPacked, endPacked, writeSized};
+ghost use Rattle.test_probe.specs.Probe.{Comes, cursorPacked, endPacked, endRow, paired, writeSized};
 
 // Whether the record that parsing bytes gives equals the one that holds nothing: so every field of it is looked at.
 #[no_mangle]
@@ -60,19 +61,20 @@ pub extern "C" fn probe_order(a: &[u8], b: &[u8]) -> u32
     order.number()
 }
 
+// Two numbers as one: the first in the upper half, and what the lower half holds of the second.
+fn pair(high: u32, low: usize) -> u64
+    ensures { λ r. ⌜ r ≡ paired high low ⌝ }
+{
+    high as u64 * 4294967296 + low as u64 % 4294967296
+}
+
 // A cursor as one number: a record's offset under its index, or one of the two greatest.
 fn cursor_packed(cursor: Cursor) -> u64
     ensures { λ r. ⌜ r ≡ cursorPacked cursor ⌝ }
 {
     match cursor {
         Cursor::Start => 18446744073709551614,
-        Cursor::Record { index, offset } => {
-            let told = Told {
-                number: (index % 4294967296) as u32,
-                amount: offset,
-            };
-            told.packed()
-        }
+        Cursor::Record { index, offset } => pair((index % 4294967296) as u32, offset),
         Cursor::End => 18446744073709551615,
     }
 }
@@ -120,6 +122,21 @@ pub extern "C" fn probe_next(
     cursor_packed(cursor)
 }
 
+// Writes the line of the record at the front of bytes, as the record of an index at an offset, for a reader of an age.
+#[no_mangle]
+pub extern "C" fn probe_record_line(
+    bytes: &[u8],
+    age: u32,
+    index: usize,
+    offset: usize,
+    out: &mut [u8],
+) -> u64
+    ensures { λ r. ⌜ Comes r (now (out .exit)) (recordLineOf age index offset (now (bytes .entry)) (now (out .entry))) ⌝ }
+{
+    let answer = record_line(bytes, Age(age), index, offset, out);
+    answer.told().packed()
+}
+
 // Where the run of bytes that begins at an offset stops, under the number with which it does.
 #[no_mangle]
 pub extern "C" fn probe_walk(bytes: &[u8], offset: usize) -> u64
@@ -127,11 +144,17 @@ pub extern "C" fn probe_walk(bytes: &[u8], offset: usize) -> u64
 {
     let end = walk(bytes, offset);
     let stop = end.stop;
-    let told = Told {
-        number: stop.told().number,
-        amount: end.offset,
-    };
-    told.packed()
+    pair(stop.told().number, end.offset)
+}
+
+// The row that the end of that run carries: of the field that is cut there, and 0 where the run stops for another reason.
+#[no_mangle]
+pub extern "C" fn probe_row(bytes: &[u8], offset: usize) -> usize
+    ensures { λ r. ⌜ r ≡ endRow (runOf (now (bytes .entry)) offset) ⌝ }
+{
+    let end = walk(bytes, offset);
+    let stop = end.stop;
+    stop.told().carried
 }
 
 // How many records the run of bytes that begins at an offset has.

@@ -1,11 +1,12 @@
 // What the port answers to the question on a sheet: the plain numbers, the case of each kind, the said bits.
 use crate::cases;
 use crate::cases::put_case;
+use answers::Refusal;
 use answers::Taken;
 use sheet::NetworkCode;
 use sheet::Sheet;
 
-// The answer where there is no whole record.
+// What the answer begins with where there is no whole record.
 const REFUSED: u8 = 255;
 
 // The sheet of the record that the bytes hold.
@@ -17,8 +18,15 @@ pub(crate) fn answer(bytes: &[u8], out: &mut [u8]) -> usize {
             let record = parsed.record;
             put_sheet(sheet::sheet_of(record), out)
         }
-        Taken::Refused(_) => buffer::put_byte(REFUSED, 0, out),
+        Taken::Refused(why) => put_refused(why, out),
     }
+}
+
+// Puts why there is no whole record: the number in four bytes, and in eight what it carries.
+fn put_refused(why: Refusal, out: &mut [u8]) -> usize {
+    let at = buffer::put_byte(REFUSED, 0, out);
+    let at = test_frames::put_four(why.number(), at, out);
+    test_frames::put_eight(why.carried(), at, out)
 }
 
 // Puts a sheet in the order of its fields.

@@ -1,8 +1,8 @@
 // What the port answers to each kind of question on an offset of a run, by its tag. A payload is the age in four bytes, the offset
 // in eight, how many bytes are lent in four, the lent bytes, and the run.
 use crate::records::put_fields;
+use crate::records::put_told;
 use answers::Counted;
-use answers::Told;
 use reader::RunReader;
 use record::Age;
 use runs::Stepped;
@@ -11,7 +11,7 @@ ghost use Rattle.record.specs.Ages.{defaultAge};
 ghost use Rattle.runs.specs.Runs.{stepOf, stepOutcome};
 
 // Where the lent bytes stand in an answer, behind what the call tells and the replacements of its text.
-const LENT: usize = 20;
+const LENT: usize = 28;
 
 // Answers a question at the front of `out`, and gives the answer's length. A tag that is none of these has no answer.
 pub(crate) fn answer(tag: u8, payload: &[u8], out: &mut [u8]) -> usize {
@@ -27,6 +27,7 @@ pub(crate) fn answer(tag: u8, payload: &[u8], out: &mut [u8]) -> usize {
         37..=39 => put_stepped(stepped(tag, &behind[n..], offset, age), out),
         40 => held(&behind[n..], offset, age, out),
         41 | 42 => wrote(tag, &behind[n..], offset, age, &behind[..n], out),
+        45 => walked(&behind[n..], offset, out),
         _ => 0,
     }
 }
@@ -63,6 +64,15 @@ fn held(bytes: &[u8], offset: usize, age: Age, out: &mut [u8]) -> usize {
     put_told(held.told(), out)
 }
 
+// Why the run from an offset on stops, where, and how many records it has.
+fn walked(bytes: &[u8], offset: usize, out: &mut [u8]) -> usize {
+    let end = runs::walk(bytes, offset);
+    let stop = end.stop;
+    let at = put_told(stop.told(), out);
+    let at = test_frames::put_eight(end.offset, at, out);
+    test_frames::put_eight(end.records, at, out)
+}
+
 // What a call that writes tells, how many replacements its text has, and the lent bytes as it leaves them.
 fn wrote(tag: u8, bytes: &[u8], offset: usize, age: Age, lent: &[u8], out: &mut [u8]) -> usize {
     let end = buffer::put(lent, LENT, out);
@@ -86,10 +96,4 @@ fn written(tag: u8, bytes: &[u8], offset: usize, age: Age, out: &mut [u8]) -> Co
             answer.counted(0)
         }
     }
-}
-
-// Puts what a call tells at the front: the number in four bytes, the amount in eight.
-fn put_told(told: Told, out: &mut [u8]) -> usize {
-    let at = test_frames::put_four(told.number, 0, out);
-    test_frames::put_eight(told.amount, at, out)
 }

@@ -1,12 +1,16 @@
 // What the port answers to each kind of question on records, by its tag. The table of tests/rust has the same tags.
 use crate::offsets;
+use answers::Refusal;
 use answers::Taken;
+use answers::Told;
 use answers::Written;
 use kinds::Density;
 use order::Ordering;
+use reading::Parsed;
+use record::Age;
 use record::ResTableConfig;
 
-// The answer where there is no whole record: 01's 1 and 2 are one, as the Rust's error is.
+// What the answer begins with where there is no whole record, and no call is told of.
 const REFUSED: u8 = 255;
 
 // Answers a question at the front of `out`, and gives the answer's length. A tag that is none of these has no answer.
@@ -17,28 +21,52 @@ pub(crate) fn answer(tag: u8, payload: &[u8], out: &mut [u8]) -> usize {
         34 => set_density(payload, out),
         35 => compare(payload, out),
         36 => written_back(payload, out),
+        43 => take(payload, out),
+        44 => parse_aged(payload, out),
         _ => offsets::answer(tag, payload, out),
     }
 }
 
-// Answers that there is no whole record.
-fn refused(out: &mut [u8]) -> usize {
-    buffer::put_byte(REFUSED, 0, out)
+// Puts what a call tells at the front: the number in four bytes, the amount in eight, and in eight what a refusal carries.
+pub(crate) fn put_told(told: Told, out: &mut [u8]) -> usize {
+    let at = test_frames::put_four(told.number, 0, out);
+    let at = test_frames::put_eight(told.amount, at, out);
+    test_frames::put_eight(told.carried, at, out)
 }
 
-// Whether the bytes hold a record, how many of them it takes, and the fields.
+// Answers that there is no whole record: why, and in eight bytes what that carries.
+fn refused(why: Refusal, out: &mut [u8]) -> usize {
+    let at = buffer::put_byte(REFUSED, 0, out);
+    let at = test_frames::put_four(why.number(), at, out);
+    test_frames::put_eight(why.carried(), at, out)
+}
+
+// How many bytes the record takes.
+fn take(bytes: &[u8], out: &mut [u8]) -> usize {
+    let answer = reading::take(bytes);
+    put_told(answer.told(), out)
+}
+
+// What parsing tells, and the fields of the record that it gives.
 fn parse(bytes: &[u8], out: &mut [u8]) -> usize {
-    let parsed = reading::parse(bytes);
-    let answer = parsed.answer;
-    match answer {
-        Taken::Took(amount) => {
-            let at = buffer::put_byte(0, 0, out);
-            let at = test_frames::put_eight(amount, at, out);
-            let record = parsed.record;
-            put_fields(record, at, out)
-        }
-        Taken::Refused(_) => refused(out),
+    put_parsed(reading::parse(bytes), out)
+}
+
+// The same for a reader of the age that stands in four bytes in front of the record.
+fn parse_aged(payload: &[u8], out: &mut [u8]) -> usize {
+    if payload.len() < 4 {
+        return 0;
     }
+    let age = Age((test_frames::four(payload) % 4294967296) as u32);
+    put_parsed(reading::parse_aged(&payload[4..], age), out)
+}
+
+// Puts what a parse tells, and the fields.
+fn put_parsed(parsed: Parsed, out: &mut [u8]) -> usize {
+    let answer = parsed.answer;
+    let at = put_told(answer.told(), out);
+    let record = parsed.record;
+    put_fields(record, at, out)
 }
 
 // The bytes that the writer gives for the record that parsing gives.
@@ -50,7 +78,7 @@ fn written_back(bytes: &[u8], out: &mut [u8]) -> usize {
             let record = parsed.record;
             put_written(record, out)
         }
-        Taken::Refused(_) => refused(out),
+        Taken::Refused(why) => refused(why, out),
     }
 }
 
@@ -71,7 +99,7 @@ fn accessors(bytes: &[u8], out: &mut [u8]) -> usize {
             let record = parsed.record;
             put_accessed(record, out)
         }
-        Taken::Refused(_) => refused(out),
+        Taken::Refused(why) => refused(why, out),
     }
 }
 
@@ -88,7 +116,7 @@ fn set_density(payload: &[u8], out: &mut [u8]) -> usize {
             let record = parsed.record;
             put_fields(record.set_density(density), 0, out)
         }
-        Taken::Refused(_) => refused(out),
+        Taken::Refused(why) => refused(why, out),
     }
 }
 
@@ -102,26 +130,22 @@ fn compare(payload: &[u8], out: &mut [u8]) -> usize {
     compare_parts(&records[..n], &records[n..], out)
 }
 
-// The answer on a pair, each in its own bytes.
+// The answer on a pair, each in its own bytes. The first one's refusal comes before the second's.
 fn compare_parts(first: &[u8], second: &[u8], out: &mut [u8]) -> usize {
     let a = reading::parse(first);
     let b = reading::parse(second);
     let answer = a.answer;
     let other = b.answer;
-    if took(answer) && took(other) {
-        let first = a.record;
-        let second = b.record;
-        compare_records(first, second, out)
-    } else {
-        refused(out)
-    }
-}
-
-// Whether bytes were taken.
-fn took(answer: Taken) -> bool {
     match answer {
-        Taken::Took(_) => true,
-        Taken::Refused(_) => false,
+        Taken::Refused(why) => refused(why, out),
+        Taken::Took(_) => match other {
+            Taken::Refused(why) => refused(why, out),
+            Taken::Took(_) => {
+                let first = a.record;
+                let second = b.record;
+                compare_records(first, second, out)
+            }
+        },
     }
 }
 

@@ -5,7 +5,7 @@ use answers::Taken;
 use answers::Written;
 use record::ResTableConfig;
 
-// The answer where there is no whole record, or where the port refuses to write: no text has this byte.
+// What the answer begins with where there is no whole record, or where the port refuses to write: a text's answer begins with 0.
 const REFUSED: u8 = 255;
 
 // Where the text stands in an answer: behind a 0, and its replacements in eight bytes.
@@ -24,8 +24,15 @@ pub(crate) fn answer(tag: u8, payload: &[u8], out: &mut [u8]) -> usize {
             let at = test_frames::put_eight(counted.replacements, at, out);
             std::num::wrapping_add_usize(at, n)
         }
-        Written::Refused(_) => buffer::put_byte(REFUSED, 0, out),
+        Written::Refused(why) => put_refused(why, out),
     }
+}
+
+// Puts why there is no text: the number in four bytes, and in eight what it carries.
+fn put_refused(why: Refusal, out: &mut [u8]) -> usize {
+    let at = buffer::put_byte(REFUSED, 0, out);
+    let at = test_frames::put_four(why.number(), at, out);
+    test_frames::put_eight(why.carried(), at, out)
 }
 
 // Writes the text that a question asks for. A tag that is none of these is refused.

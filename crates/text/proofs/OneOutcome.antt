@@ -1,9 +1,9 @@
 -- Any two outcomes of a text call for the same input are one. Assumes nothing.
 use Prim.Native.Nat.{ℕ}
-use mathlib.Core.Path.{_≡_, refl, sym, _∙_}
+use mathlib.Core.Path.{_≡_, sym, _∙_}
 use mathlib.Core.List.{List}
 use Rattle.answers.specs.declared.Counted.{Counted}
-use Rattle.answers.proofs.OneToOne.{back, refused-back, tells-one}
+use Rattle.answers.proofs.OneToOne.{back, ok-back, refused-back, tells-one}
 use Rattle.buffer.specs.Counted.{countedOutcome}
 use Rattle.buffer.proofs.OneOutcome.{one-counted}
 use Rattle.text.specs.declared.Replaced.{Replaced}
@@ -16,9 +16,8 @@ pub one-aged : (a : ℕ) (bytes old : List ℕ) {r s : Counted} {x y : List ℕ}
 one-aged a bytes old p q = one-counted p q
 
 -- each answer of `replacements` comes back from what it tells, so it is fixed
-replaced-back : (r : Replaced) → back Replaced.Count Replaced.Refused (replacedTells r .number) (replacedTells r .amount) ≡ r
-unfolding back
-replaced-back (Replaced.Count n) = refl
+replaced-back : (r : Replaced) → back Replaced.Count Replaced.Refused (replacedTells r) ≡ r
+replaced-back (Replaced.Count n) = ok-back Replaced.Count Replaced.Refused n
 replaced-back (Replaced.Refused why) = refused-back Replaced.Count Replaced.Refused why
 
 pub one-replaced : (a : ℕ) (bytes : List ℕ) (r s : Replaced) → replacedTells r ≡ replacementsOf a bytes → replacedTells s ≡ replacementsOf a bytes → r ≡ s

@@ -20,7 +20,7 @@ countedPlain s old = counting (textReplacements (plain s)) (plainText s old)
 abbrev pub countedAged : ℕ → List ℕ → List ℕ → CountedOutcome
 countedAged a s old = counting (textReplacements (aged a s)) (agedText a s old)
 
--- how many replacements the text for a reader of age a has: 3, 1, 2, then 4
+-- how many replacements the text for a reader of age a has: 3, 1, 2 or 8, then 4
 abbrev pub replacementsOf : ℕ → List ℕ → Told
 replacementsOf a s = ifAge a refusal (ifWhole s refusal (cond (heldBack a s) (refusal Refusal.HeldBack) (success (textReplacements (aged a s)))))
 

@@ -11,15 +11,15 @@ use Rattle.places.specs.Places.{textOf}
 use Rattle.text.specs.Counted.{replacementsOf}
 use Rattle.text.specs.Text.{plainText, agedText}
 
--- `plain_text`: 1, 2, 5
+-- `plain_text`: 1, 2 or 8, 5
 abbrev pub PlainTextRefuses : List ℕ → List ℕ → Type 0
 PlainTextRefuses s old = Refuses (fewerThan16 s ∷ fewerThanSize s ∷ shorterThan (length (textOf (plain s))) old ∷ []) old (plainText s old)
 
--- `aged_text` and, from an offset on, `text_at`: 3, 1, 2, 4, 5
+-- `aged_text` and, from an offset on, `text_at`: 3, 1, 2 or 8, 4, 5
 abbrev pub AgedTextRefuses : ℕ → List ℕ → List ℕ → Type 0
 AgedTextRefuses a s old =
     Refuses (notAnAge a ∷ fewerThan16 s ∷ fewerThanSize s ∷ isHeldBack a s ∷ shorterThan (length (textOf (aged a s))) old ∷ []) old (agedText a s old)
 
--- `replacements`: 3, 1, 2, 4
+-- `replacements`: 3, 1, 2 or 8, 4
 abbrev pub ReplacementsRefuse : ℕ → List ℕ → Type 0
 ReplacementsRefuse a s = Exactly (notAnAge a ∷ fewerThan16 s ∷ fewerThanSize s ∷ isHeldBack a s ∷ []) (replacementsOf a s)

@@ -39,7 +39,7 @@ impl Replaced {
         ensures { λ r. ⌜ r ≡ replacedTells self ⌝ }
     {
         match self {
-            Self::Count(amount) => Told { number: 0, amount },
+            Self::Count(amount) => Told::success(amount),
             Self::Refused(why) => why.told(),
         }
     }

@@ -25,7 +25,7 @@ pub enum Room {
 pub const ROOMS: [&str; 6] = ["no buffer", "nothing", "one short", "exact", "longer", "large"];
 
 /// The calls that inputs of any sort go to, those whose answer says most more often.
-const GO_TO: [Call; 19] = [
+const GO_TO: [Call; 21] = [
     Call::Take,
     Call::Text,
     Call::Text,
@@ -45,6 +45,8 @@ const GO_TO: [Call; 19] = [
     Call::Walk,
     Call::Records,
     Call::Write,
+    Call::Row,
+    Call::RecordLine,
 ];
 
 /// Rooms that are large: at the longest text, at the longest line of a listing and of any record, and far past them.
@@ -171,7 +173,7 @@ impl Source for Made {
         SORTS.iter().map(|sort| sort.name).collect()
     }
 
-    fn next(&mut self) -> Question {
+    fn next(&mut self) -> Option<Question> {
         let (mut at, mut left) = (0, self.random.below(SORTS.iter().map(|sort| sort.weight).sum()));
         while left >= SORTS[at].weight {
             left -= SORTS[at].weight;
@@ -179,7 +181,7 @@ impl Source for Made {
         }
         let sort = &SORTS[at];
         let first = self.input(at, sort.make);
-        match sort.taken_for {
+        Some(match sort.taken_for {
             For::Pairs => {
                 let (a, b) = parts(&first);
                 question(&mut self.random, at, Call::Order, a.to_vec(), b.to_vec())
@@ -193,7 +195,7 @@ impl Source for Made {
                 let second = if call == Call::Order { self.input(at, sort.make) } else { vec![] };
                 question(&mut self.random, at, call, first, second)
             }
-        }
+        })
     }
 }
 
@@ -204,15 +206,26 @@ pub fn question(random: &mut Random, sort: usize, call: Call, first: Vec<u8>, se
         _ => any_age(random),
     };
     let (index, offset) = match call {
-        Call::Line | Call::Next | Call::Walk | Call::Records => cursor(random, &first),
+        Call::Line | Call::Next | Call::Walk | Call::Row | Call::Records | Call::RecordLine => cursor(random, &first),
         _ => (0, 0),
     };
-    let wanted = wanted(call, number, index, offset, &first);
-    let (room, lent) = match call {
-        Call::Take | Call::Replaced | Call::Order | Call::Walk | Call::Records => (Room::NotLent, 0),
+    lent(random, Question { index, offset, second, ..bare(sort, call, number, first) })
+}
+
+/// A call of some bytes at their front, with nothing lent.
+pub fn bare(sort: usize, call: Call, number: u32, first: Vec<u8>) -> Question {
+    let (second, wanted) = (vec![], Ok(vec![]));
+    Question { call, number, index: 0, offset: 0, first, second, lent: 0, room: Room::NotLent, sort, wanted }
+}
+
+/// A question with what it is to write, and with bytes lent where it writes.
+pub fn lent(random: &mut Random, question: Question) -> Question {
+    let wanted = wanted(question.call, question.number, question.index, question.offset, &question.first);
+    let (room, lent) = match question.call {
+        Call::Take | Call::Replaced | Call::Order | Call::Walk | Call::Row | Call::Records => (Room::NotLent, 0),
         _ => room(random, &wanted),
     };
-    Question { call, number, index, offset, first, second, lent, room, sort, wanted }
+    Question { wanted, room, lent, ..question }
 }
 
 /// An age, and one in six times another number.

@@ -135,7 +135,7 @@ impl Source for Mutated {
         MUTATIONS.map(|(name, _)| name).to_vec()
     }
 
-    fn next(&mut self) -> Question {
+    fn next(&mut self) -> Option<Question> {
         if self.calls == CALLS.len() {
             self.mutate();
             self.calls = 0;
@@ -147,6 +147,6 @@ impl Source for Mutated {
             Call::Order => self.kept[self.random.below(KEPT)].clone(),
             _ => vec![],
         };
-        question(&mut self.random, self.sort, call, self.bytes.clone(), second)
+        Some(question(&mut self.random, self.sort, call, self.bytes.clone(), second))
     }
 }

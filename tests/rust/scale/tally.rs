@@ -1,18 +1,23 @@
 //! How many questions there were of each class.
 use super::expected::{replacements, Outcome};
 use super::{inputs::ROOMS, Question, CALLS};
+use crate::cut::FIELDS;
 
-/// What 01's numbers mean.
-const NUMBERS: [&str; 8] = [
+/// What the numbers of 01 and 02 mean.
+const NUMBERS: [&str; 9] = [
     "0 success",
     "1 fewer than 16",
-    "2 fewer than size",
+    "2 field cut",
     "3 not an age",
     "4 held back",
     "5 short buffer",
     "6 unread field",
     "7 too much input",
+    "8 undecoded cut",
 ];
+
+/// The first row that a cut field can have: the four before it are in the sixteen bytes without which there is no record.
+const FIRST_CUT: usize = 4;
 
 /// How many replacements a text has, each row with its least; 24 are the most.
 const REPLACEMENTS: [(&str, usize); 4] = [("none", 0), ("1", 1), ("2 to 23", 2), ("24", 24)];
@@ -31,20 +36,22 @@ impl Table {
     /// Prints the table, with the sum of each row.
     fn print(&self) {
         let names: String = CALLS.iter().map(|(_, name)| format!("{name:>10}")).collect();
-        println!("{:18}{names}{:>10}", self.title, "all");
+        println!("{:27}{names}{:>10}", self.title, "all");
         for (name, counts) in &self.rows {
             let counts_of: String = counts.iter().map(|count| format!("{count:>10}")).collect();
-            println!("{name:18}{counts_of}{:>10}", counts.iter().sum::<u64>());
+            println!("{name:27}{counts_of}{:>10}", counts.iter().sum::<u64>());
         }
     }
 }
 
-/// The questions so far: by sort of input, by what was lent, and by 01's number; and those that came to a text, by its replacements.
+/// The questions so far: by sort of input, by what was lent, and by the number; those that came to 2, by the field's row; and those that
+/// came to a text, by its replacements.
 pub struct Tally {
     pub count: u64,
     sorts: Table,
     rooms: Table,
     numbers: Table,
+    cut: Table,
     replacements: Table,
 }
 
@@ -55,6 +62,7 @@ impl Tally {
             sorts: Table::new("input", &sorts),
             rooms: Table::new("lent", &ROOMS),
             numbers: Table::new("number", &NUMBERS),
+            cut: Table::new("cut field", &FIELDS.map(|(name, _)| name)[FIRST_CUT..]),
             replacements: Table::new("replacements", &REPLACEMENTS.map(|(name, _)| name)),
         }
     }
@@ -65,23 +73,27 @@ impl Tally {
         self.count += 1;
         self.sorts.rows[question.sort].1[call] += 1;
         self.rooms.rows[question.room as usize].1[call] += 1;
-        self.numbers.rows[outcome.number as usize].1[call] += 1;
+        self.numbers.rows[outcome.why.number as usize].1[call] += 1;
+        if outcome.why.number == 2 {
+            self.cut.rows[outcome.why.carried as usize - FIRST_CUT].1[call] += 1;
+        }
         if let Some(count) = replacements(question, outcome) {
             let row = REPLACEMENTS.iter().rposition(|(_, least)| *least <= count).unwrap_or(0);
             self.replacements.rows[row].1[call] += 1;
         }
     }
 
-    /// Prints what was counted. It fails where another number of questions was asked, where one of 01's numbers has none, and where no text
-    /// has replacements.
-    pub fn ended(&self, asked: u64) -> Result<(), String> {
+    /// Prints what was counted. It fails where another number of questions was asked, where one of some numbers or one of the fields has
+    /// none, and where no text has replacements.
+    pub fn ended(&self, asked: u64, numbers: &[usize]) -> Result<(), String> {
         if asked != self.count {
             return Err(format!("{asked} questions were asked and {} answered", self.count));
         }
-        for table in [&self.sorts, &self.rooms, &self.numbers, &self.replacements] {
+        for table in [&self.sorts, &self.rooms, &self.numbers, &self.cut, &self.replacements] {
             table.print();
         }
-        if let Some((missing, _)) = self.numbers.rows.iter().find(|(_, counts)| counts.iter().sum::<u64>() == 0) {
+        let rows = numbers.iter().map(|number| &self.numbers.rows[*number]).chain(&self.cut.rows);
+        if let Some((missing, _)) = rows.into_iter().find(|(_, counts)| counts.iter().sum::<u64>() == 0) {
             return Err(format!("no question came to {missing}"));
         }
         let replaced: u64 = self.replacements.rows[1..].iter().flat_map(|(_, counts)| counts).sum();

@@ -1,4 +1,4 @@
--- Number and amount come back from the packed number. Assumes nothing.
+-- What is told comes back from the packed number. Assumes nothing.
 use mathlib.Core.Path.{ap, _∙_}
 use Rattle.res_table_config.specs.Face.{answerTells}
 use Rattle.res_table_config.proofs.Packing.{unpacked}

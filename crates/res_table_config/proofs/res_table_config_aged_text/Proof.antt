@@ -15,10 +15,11 @@ res-table-config-aged-text-spec =
     (λ c κs.
     let aged-text = c .before .before .before in
     let are-bytes = aged-text .before .before in
-    written-fits (aged-text .aged-text .result .answer) _ _ _ (ap (λ (o : CountedOutcome). o .does) (aged-text .aged-text .ensures)) (c .told .ensures)
-    (aged-small _ _ _ (are-bytes .are-bytes .ensures)))
+    written-fits (aged-text .aged-text .result .answer) _ _ _ (ap (λ (o : CountedOutcome). o .does) (aged-text .aged-text .ensures))
+    (c .told .ensures) (aged-small _ _ _ (are-bytes .are-bytes .ensures)))
     (λ c. search needs)
     (λ c.
     let told = c .before in
     let aged-text = told .before .before .before in
-    written-told (aged-text .aged-text .result .answer) _ _ _ (ap (λ (o : CountedOutcome). o .does) (aged-text .aged-text .ensures)) (told .told .ensures) _ (c .packed .ensures)))
+    written-told (aged-text .aged-text .result .answer) _ _ _ (ap (λ (o : CountedOutcome). o .does) (aged-text .aged-text .ensures))
+    (told .told .ensures) (c .packed .result) (c .packed .ensures)))

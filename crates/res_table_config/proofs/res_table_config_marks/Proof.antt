@@ -17,4 +17,4 @@ res-table-config-marks-spec =
     (λ c.
     let told = c .before in
     let marks = told .before .before .before in
-    written-told (marks .marks .result) _ _ _ (marks .marks .ensures) (told .told .ensures) _ (c .packed .ensures)))
+    written-told (marks .marks .result) _ _ _ (marks .marks .ensures) (told .told .ensures) (c .packed .result) (c .packed .ensures)))

@@ -15,10 +15,11 @@ res-table-config-text-spec =
     (λ c κs.
     let plain-text = c .before .before .before in
     let are-bytes = plain-text .before .before in
-    written-fits (plain-text .plain-text .result .answer) _ _ _ (ap (λ (o : CountedOutcome). o .does) (plain-text .plain-text .ensures)) (c .told .ensures)
-    (text-small _ _ (are-bytes .are-bytes .ensures)))
+    written-fits (plain-text .plain-text .result .answer) _ _ _ (ap (λ (o : CountedOutcome). o .does) (plain-text .plain-text .ensures))
+    (c .told .ensures) (text-small _ _ (are-bytes .are-bytes .ensures)))
     (λ c. search needs)
     (λ c.
     let told = c .before in
     let plain-text = told .before .before .before in
-    written-told (plain-text .plain-text .result .answer) _ _ _ (ap (λ (o : CountedOutcome). o .does) (plain-text .plain-text .ensures)) (told .told .ensures) _ (c .packed .ensures)))
+    written-told (plain-text .plain-text .result .answer) _ _ _ (ap (λ (o : CountedOutcome). o .does) (plain-text .plain-text .ensures))
+    (told .told .ensures) (c .packed .result) (c .packed .ensures)))

@@ -8,4 +8,4 @@ cursor-packed-spec =
     tie.close
     (tie.spec
     (λ c. search needs) (λ c. search needs) (λ c. search needs) (λ c κs. tt) (λ c. search needs) (λ c. search needs)
-    (λ c. rw (c .before .before .cursor .given .1) (c .packed .ensures)) (λ c. search needs))
+    (λ c. rw (c .before .before .cursor .given .1) (c .pair .ensures)) (λ c. search needs))

@@ -1,4 +1,4 @@
--- 3, 1, 2 and 4 in their order, then the text. Assumes nothing.
+-- 3, 1, 2 or 8, and 4 in their order, then the text. Assumes nothing.
 use mathlib.Core.Path.{sym, _∙_}
 use borrow.Author.Tests.{not-true, not-false}
 use Rattle.text.proofs.Answers.{refused-counted, aged-unknown, aged-refused, aged-held, aged-unheld}

@@ -1,4 +1,4 @@
--- 3, 1, 2 and 4 by whether the record is held back, then the count. Assumes nothing.
+-- 3, 1, 2 or 8, and 4 by whether the record is held back, then the count. Assumes nothing.
 use mathlib.Core.Path.{ap, _∙_}
 use Rattle.answers.specs.Tells.{success}
 use Rattle.text.proofs.Answers.{refused-told, held-told, unheld-counted}

@@ -7,7 +7,7 @@ pub told-spec : {M : Type 1} → statement M
 told-spec =
     tie.close
     (tie.spec
-    (λ c. search needs) (λ c. search needs) (λ c. search needs) (λ c κs. tt)
-    (λ c. rw (c .enum-told .given .1))
-    (λ c. rw (c .enum-told2 .given .1))
+    (λ c. search needs) (λ c κs. tt) (λ c. search needs) (λ c κs. tt) (λ c. search needs) (λ c κs. tt)
+    (λ c. rw (c .before .enum-told .given .1) (c .success .ensures))
+    (λ c. rw (c .before .enum-told2 .given .1) (c .success2 .ensures))
     (λ c. rw (c .before .before .self .given .1) (c .told .ensures)))

@@ -7,6 +7,6 @@ pub told-spec : {M : Type 1} → statement M
 told-spec =
     tie.close
     (tie.spec
-    (λ c. search needs) (λ c. search needs) (λ c κs. tt)
-    (λ c. rw (c .enum-told .given .1))
+    (λ c. search needs) (λ c κs. tt) (λ c. search needs) (λ c κs. tt)
+    (λ c. rw (c .before .enum-told .given .1) (c .success .ensures))
     (λ c. rw (c .before .before .self .given .1) (c .told .ensures)))
