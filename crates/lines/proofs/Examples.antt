@@ -45,7 +45,7 @@ pub examples :
     ∷ [])
     -- no bytes: the run stops at its exact end with 0
     × (listingOf 64 [] ≡ (ascii "age 64" ++ newline) ∷ (ascii "stop 0 0" ++ newline) ∷ [])
-    -- a record that is cut: inside field 10, at every age, or behind all fields
+    -- a record that is cut: inside field 10, also for a reader that doesn't know that field, or behind all fields
     × (listingOf 36 (64 ∷ replicate 39 0) ≡ (ascii "age 36" ++ newline) ∷ (ascii "stop 0 2 10" ++ newline) ∷ [])
     × (listingOf 64 (65 ∷ replicate 63 0) ≡ (ascii "age 64" ++ newline) ∷ (ascii "stop 0 8" ++ newline) ∷ [])
     -- a held-back record is counted, and the run goes on
