@@ -1,10 +1,12 @@
 /*
- * Resource configuration records of Android packages: six calls on numbers and bytes. Link libres_table_config.a, which
- * `rt staticlib res_table_config` writes to target/staticlib/ (x86-64 Linux).
+ * Resource configuration records of Android packages, and the type chunks that hold them: ten calls on numbers and bytes, six
+ * on records and four on chunks. Link libres_table_config.a, which `rt staticlib res_table_config` writes to target/staticlib/
+ * (x86-64 Linux).
  *
  * Answers. Each call answers one number: a refusal's number in the upper 32 bits, 0 for a success. The lower 32 bits hold a
  * success's amount, or what the refusal carries: 2 carries the row of a field, the others carry 0. Refusals are tested in the order
- * 3, 1, 2 and 8, 4, 5, as far as each can come; 2 and 8 stand at one place, since at most one of them holds.
+ * 3, 1, 2 and 8, 4, 5, as far as each can come; 2 and 8 stand at one place, since at most one of them holds. On a chunk it is
+ * 3, 1, 9, 10, then 1, 2 and 8 of the record in its header, 4, 5.
  *
  * Buffers. A pointer and the length behind it name that many bytes, from one object, and the pointer isn't null, also where the
  * length is 0. A success writes from the front of out and leaves the bytes behind what it wrote as they were. A refusal writes
@@ -23,9 +25,9 @@
 extern "C" {
 #endif
 
-/* Why a call is refused. The calls of this header give 1 to 5, and 8. */
+/* Why a call is refused. The calls of this header give 1 to 5, and 8; those on chunks also 9 and 10. */
 enum res_table_config_refusal {
-    RES_TABLE_CONFIG_FEWER_THAN_16 = 1,  /* there are fewer than 16 bytes */
+    RES_TABLE_CONFIG_TOO_FEW_BYTES = 1,  /* fewer than the 16 bytes that a record has at the least, or than the 20 of a chunk's head */
     RES_TABLE_CONFIG_FIELD_CUT = 2,      /* 16 bytes or more, fewer than the record's size, and a field that the size holds ends past
                                             them: carries the row of the first such field, from 4 to 14 */
     RES_TABLE_CONFIG_NOT_AN_AGE = 3,     /* none of 16 20 24 28 32 36 40 48 52 53 61 64 */
@@ -33,15 +35,20 @@ enum res_table_config_refusal {
     RES_TABLE_CONFIG_SHORT_BUFFER = 5,   /* out is shorter than what is to be written */
     RES_TABLE_CONFIG_UNREAD_FIELD = 6,   /* writer: a field that isn't read at the record's size isn't zero */
     RES_TABLE_CONFIG_TOO_MUCH_INPUT = 7, /* listing: more than 65,536 bytes of input */
-    RES_TABLE_CONFIG_UNDECODED_CUT = 8   /* 16 bytes or more, fewer than the record's size, and every field that the size holds is
+    RES_TABLE_CONFIG_UNDECODED_CUT = 8,  /* 16 bytes or more, fewer than the record's size, and every field that the size holds is
                                             there: only undecoded bytes are lacking */
+    RES_TABLE_CONFIG_WRONG_TYPE = 9,     /* the chunk's type isn't 0x0201 */
+    RES_TABLE_CONFIG_WRONG_SIZES = 10    /* the chunk's header size is below 20 or above its chunk size, or that is above the bytes
+                                            given */
 };
 
-/* How many bytes the longest text has, how many marks there are, and how many fields, whose rows count from 0. */
+/* How many bytes the longest text has, how many marks there are, how many fields, whose rows count from 0, and how many bytes
+   res_table_type_head writes. */
 enum {
     RES_TABLE_CONFIG_TEXT_MOST = 344,
     RES_TABLE_CONFIG_MARKS = 14,
-    RES_TABLE_CONFIG_FIELDS = 15
+    RES_TABLE_CONFIG_FIELDS = 15,
+    RES_TABLE_TYPE_HEAD = 10
 };
 
 /* The amounts of res_table_config_order. */
@@ -109,6 +116,43 @@ uint64_t res_table_config_marks(const uint8_t *bytes, size_t len, uint32_t age, 
 
 /* How the record at the front of a stands to the one at the front of b. Refusals 1, 2, 8 of a, then 1, 2, 8 of b. */
 uint64_t res_table_config_order(const uint8_t *a, size_t a_len, const uint8_t *b, size_t b_len);
+
+/*
+ * Type chunks. A chunk begins with its type, 0x0201 (2 bytes), its header size (2) and its chunk size (4), all little-endian. Then
+ * come id (1), flags (1), two reserved bytes, entry count (4) and entries start (4). The record begins at byte 20 and has to lie
+ * within the header size. What the header holds behind the record says nothing, and no byte behind the header is looked at.
+ */
+
+/* How many bytes the chunk at the front of bytes takes: its chunk size, so that the next one begins there. Refusals 1, 9, 10,
+   then 1, 2, 8 of the record. */
+uint64_t res_table_type_take(const uint8_t *bytes, size_t len);
+
+/* Writes ten bytes of the chunk's head as they are stored: id, flags, entry count (4) and entries start (4). The amount is 10.
+   Refusals 1, 9, 10, then 1, 2, 8 of the record, then 5. */
+uint64_t res_table_type_head(const uint8_t *bytes, size_t len, uint8_t *out, size_t cap);
+
+/* Writes the text of the chunk's record for a reader of an age; the amount is its length. Refusals 3, 1, 9, 10, then 1, 2, 8 of the
+   record, then 4, 5. */
+uint64_t res_table_type_aged_text(const uint8_t *bytes, size_t len, uint32_t age, uint8_t *out, size_t cap);
+
+/* Writes the marks of the chunk's record, as res_table_config_marks does; the amount is 14. Refusals 3, 1, 9, 10, then 1, 2, 8 of the
+   record, then 5. */
+uint64_t res_table_type_marks(const uint8_t *bytes, size_t len, uint32_t age, uint8_t *out, size_t cap);
+
+/* Four little-endian bytes as a number. */
+static inline uint32_t res_table_type_number(const uint8_t *four) {
+    return four[0] | (uint32_t)four[1] << 8 | (uint32_t)four[2] << 16 | (uint32_t)four[3] << 24;
+}
+
+/* Of the ten bytes that res_table_type_head writes, how many entries the chunk has. Its id is head[0], its flags are head[1]. */
+static inline uint32_t res_table_type_entry_count(const uint8_t head[RES_TABLE_TYPE_HEAD]) {
+    return res_table_type_number(head + 2);
+}
+
+/* Of these ten bytes, the offset in the chunk where its entries start. */
+static inline uint32_t res_table_type_entries_start(const uint8_t head[RES_TABLE_TYPE_HEAD]) {
+    return res_table_type_number(head + 6);
+}
 
 #ifdef __cplusplus
 }

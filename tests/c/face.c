@@ -1,5 +1,5 @@
 /* Calls the C face as a C program does. Prints a line for each class of checks; the status is 1 where a check fails. */
-#include "res_table_config.h"
+#include "face.h"
 
 /* The one function of C's library that is called: a compiler for another machine may have no <stdio.h>. */
 int printf(const char *format, ...);
@@ -8,14 +8,12 @@ int printf(const char *format, ...);
 int face_from_cpp(int *failed);
 
 #define GUARD 0xa5
-#define ROOM 400
 
 static int checks, failures, all_failures;
-static uint8_t out[ROOM];
+uint8_t out[ROOM];
 
-/* mcc310-en-rUS-port-hdpi: the first record of 01's listing. */
-static const uint8_t PHONE[16] = {16, 0, 0, 0, 54, 1, 0, 0, 'e', 'n', 'U', 'S', 1, 0, 240, 0};
-static const char PHONE_TEXT[] = "mcc310-en-rUS-port-hdpi";
+const uint8_t PHONE[16] = {16, 0, 0, 0, 54, 1, 0, 0, 'e', 'n', 'U', 'S', 1, 0, 240, 0};
+const char PHONE_TEXT[] = "mcc310-en-rUS-port-hdpi";
 
 /* The record whose text has 344 bytes. */
 static const uint8_t LONGEST[64] = {
@@ -25,18 +23,15 @@ static const uint8_t LONGEST[64] = {
 
 static const uint8_t ZEROS[64] = {0};
 
-/* Counts a check, and says where it stands if it fails. */
-static void check(int holds, int line) {
+void check(int holds, const char *file, int line) {
     checks++;
     if (!holds) {
         failures++;
-        printf("face: FAILED: tests/c/face.c:%d\n", line);
+        printf("face: FAILED: %s:%d\n", file, line);
     }
 }
-#define CHECK(holds) check(holds, __LINE__)
 
-/* Ends a class of checks. */
-static void ended(const char *name) {
+void ended(const char *name) {
     printf("face: %s: %d checks, %d failed\n", name, checks, failures);
     all_failures += failures;
     checks = failures = 0;
@@ -53,31 +48,32 @@ static int untouched(size_t from) {
     return 1;
 }
 
-/* Whether an answer is a refusal with this number that carries this, and out is as it was. */
-static int carries(uint64_t answer, uint32_t number, uint32_t carried) {
+int carries(uint64_t answer, uint32_t number, uint32_t carried) {
     int holds = res_table_config_number(answer) == number && res_table_config_carried(answer) == carried;
     holds = holds && res_table_config_amount(answer) == 0 && untouched(0);
     fill();
     return holds;
 }
 
-/* Whether an answer is a refusal with this number that carries nothing, and out is as it was. */
-static int refused(uint64_t answer, uint32_t number) {
+int refused(uint64_t answer, uint32_t number) {
     return carries(answer, number, 0);
 }
 
-/* Whether an answer is a success that wrote a word and no byte behind it. */
-static int wrote(uint64_t answer, const char *word) {
-    size_t n = 0;
+int wrote_bytes(uint64_t answer, const uint8_t *bytes, size_t count) {
     int same = 1;
-    for (; word[n]; n++) same = same && out[n] == (uint8_t)word[n];
-    int holds = answer == n && same && untouched(n);
+    for (size_t i = 0; i < count; i++) same = same && out[i] == bytes[i];
+    int holds = answer == count && same && untouched(count);
     fill();
     return holds;
 }
 
-/* A record of 64 bytes of room: this size, and one byte at an offset. */
-static void record(uint8_t *bytes, uint8_t size, size_t at, uint8_t byte) {
+int wrote(uint64_t answer, const char *word) {
+    size_t n = 0;
+    while (word[n]) n++;
+    return wrote_bytes(answer, (const uint8_t *)word, n);
+}
+
+void record(uint8_t *bytes, uint8_t size, size_t at, uint8_t byte) {
     for (size_t i = 0; i < 80; i++) bytes[i] = 0;
     bytes[0] = size;
     bytes[at] = byte;
@@ -86,8 +82,8 @@ static void record(uint8_t *bytes, uint8_t size, size_t at, uint8_t byte) {
 static void take(void) {
     uint8_t bytes[80];
     record(bytes, 17, 4, 0);
-    CHECK(refused(res_table_config_take(ZEROS, 0), RES_TABLE_CONFIG_FEWER_THAN_16));
-    CHECK(refused(res_table_config_take(ZEROS, 15), RES_TABLE_CONFIG_FEWER_THAN_16));
+    CHECK(refused(res_table_config_take(ZEROS, 0), RES_TABLE_CONFIG_TOO_FEW_BYTES));
+    CHECK(refused(res_table_config_take(ZEROS, 15), RES_TABLE_CONFIG_TOO_FEW_BYTES));
     CHECK(res_table_config_take(ZEROS, 16) == 16);
     CHECK(res_table_config_take(ZEROS, 40) == 16);
     CHECK(refused(res_table_config_take(bytes, 16), RES_TABLE_CONFIG_UNDECODED_CUT));
@@ -105,7 +101,7 @@ static void text(void) {
     CHECK(wrote(res_table_config_text(PHONE, 16, out, 23), PHONE_TEXT));
     CHECK(refused(res_table_config_text(PHONE, 16, out, 22), RES_TABLE_CONFIG_SHORT_BUFFER));
     CHECK(refused(res_table_config_text(PHONE, 16, out, 0), RES_TABLE_CONFIG_SHORT_BUFFER));
-    CHECK(refused(res_table_config_text(PHONE, 15, out, ROOM), RES_TABLE_CONFIG_FEWER_THAN_16));
+    CHECK(refused(res_table_config_text(PHONE, 15, out, ROOM), RES_TABLE_CONFIG_TOO_FEW_BYTES));
     CHECK(carries(res_table_config_text(LONGEST, 63, out, 0), RES_TABLE_CONFIG_FIELD_CUT, 14));
     CHECK(wrote(res_table_config_text(ZEROS, 16, out, 0), ""));
     CHECK(res_table_config_text(LONGEST, 64, out, RES_TABLE_CONFIG_TEXT_MOST) == 344 && out[343] != GUARD && untouched(344));
@@ -121,7 +117,7 @@ static void aged_text(void) {
     record(bytes, 36, 32, 100);
     CHECK(refused(res_table_config_aged_text(ZEROS, 0, 33, out, 0), RES_TABLE_CONFIG_NOT_AN_AGE));
     CHECK(refused(res_table_config_aged_text(ZEROS, 16, 0, out, ROOM), RES_TABLE_CONFIG_NOT_AN_AGE));
-    CHECK(refused(res_table_config_aged_text(ZEROS, 15, 64, out, ROOM), RES_TABLE_CONFIG_FEWER_THAN_16));
+    CHECK(refused(res_table_config_aged_text(ZEROS, 15, 64, out, ROOM), RES_TABLE_CONFIG_TOO_FEW_BYTES));
     CHECK(carries(res_table_config_aged_text(bytes, 35, 32, out, ROOM), RES_TABLE_CONFIG_FIELD_CUT, 8));
     CHECK(refused(res_table_config_aged_text(bytes, 36, 32, out, 0), RES_TABLE_CONFIG_HELD_BACK));
     CHECK(refused(res_table_config_aged_text(bytes, 36, 36, out, 5), RES_TABLE_CONFIG_SHORT_BUFFER));
@@ -161,7 +157,7 @@ static void replaced(void) {
     CHECK(refused(res_table_config_replaced(LONGEST, 15, 33), RES_TABLE_CONFIG_NOT_AN_AGE));
     CHECK(refused(res_table_config_replaced(LONGEST, 63, 33), RES_TABLE_CONFIG_NOT_AN_AGE));
     CHECK(refused(res_table_config_replaced(LONGEST, 64, 33), RES_TABLE_CONFIG_NOT_AN_AGE));
-    CHECK(refused(res_table_config_replaced(LONGEST, 15, 61), RES_TABLE_CONFIG_FEWER_THAN_16));
+    CHECK(refused(res_table_config_replaced(LONGEST, 15, 61), RES_TABLE_CONFIG_TOO_FEW_BYTES));
     CHECK(carries(res_table_config_replaced(LONGEST, 63, 53), RES_TABLE_CONFIG_FIELD_CUT, 14));
     CHECK(refused(res_table_config_replaced(LONGEST, 64, 53), RES_TABLE_CONFIG_HELD_BACK));
     CHECK(res_table_config_replaced(LONGEST, 64, 61) == 24);
@@ -177,7 +173,7 @@ static void marks(void) {
     CHECK(wrote(res_table_config_marks(bytes, 36, 32, out, 14), "BBBBBBBUUUUUUU"));
     CHECK(refused(res_table_config_marks(PHONE, 16, 64, out, 13), RES_TABLE_CONFIG_SHORT_BUFFER));
     CHECK(refused(res_table_config_marks(ZEROS, 0, 65, out, 0), RES_TABLE_CONFIG_NOT_AN_AGE));
-    CHECK(refused(res_table_config_marks(ZEROS, 15, 64, out, 0), RES_TABLE_CONFIG_FEWER_THAN_16));
+    CHECK(refused(res_table_config_marks(ZEROS, 15, 64, out, 0), RES_TABLE_CONFIG_TOO_FEW_BYTES));
     CHECK(carries(res_table_config_marks(bytes, 35, 64, out, 0), RES_TABLE_CONFIG_FIELD_CUT, 8));
     ended("marks");
 }
@@ -193,9 +189,9 @@ static void order(void) {
     CHECK(res_table_config_order(mcc, 16, mnc, 20) == RES_TABLE_CONFIG_LESS);
     CHECK(res_table_config_order(ZEROS, 16, cut, 17) == RES_TABLE_CONFIG_EQUAL);
     CHECK(refused(res_table_config_order(cut, 16, ZEROS, 15), RES_TABLE_CONFIG_UNDECODED_CUT));
-    CHECK(refused(res_table_config_order(ZEROS, 15, cut, 16), RES_TABLE_CONFIG_FEWER_THAN_16));
+    CHECK(refused(res_table_config_order(ZEROS, 15, cut, 16), RES_TABLE_CONFIG_TOO_FEW_BYTES));
     CHECK(refused(res_table_config_order(PHONE, 16, cut, 16), RES_TABLE_CONFIG_UNDECODED_CUT));
-    CHECK(refused(res_table_config_order(PHONE, 16, ZEROS, 0), RES_TABLE_CONFIG_FEWER_THAN_16));
+    CHECK(refused(res_table_config_order(PHONE, 16, ZEROS, 0), RES_TABLE_CONFIG_TOO_FEW_BYTES));
     ended("order");
 }
 
@@ -212,7 +208,7 @@ static const struct {
     {36, 32, 2, 8}, {40, 39, 2, 9}, {48, 40, 2, 10}, {64, 40, 2, 10}, {64, 47, 2, 10}, {52, 48, 2, 11}, {53, 52, 2, 12}, {61, 53, 2, 13},
     {64, 60, 2, 13}, {64, 61, 2, 14}, {64, 63, 2, 14}, {65, 63, 2, 14}};
 
-static const uint32_t AGES[] = {16, 20, 24, 28, 32, 36, 40, 48, 52, 53, 61, 64};
+const uint32_t AGES[12] = {16, 20, 24, 28, 32, 36, 40, 48, 52, 53, 61, 64};
 
 /* Every call on each of these, at every age: nothing that comes later in the order, a buffer of no bytes among it, is told instead. */
 static void cut(void) {
@@ -226,8 +222,8 @@ static void cut(void) {
         CHECK(carries(res_table_config_order(bytes, length, ZEROS, 15), number, row));
         CHECK(carries(res_table_config_order(bytes, length, LONGEST, 63), number, row));
         CHECK(carries(res_table_config_order(ZEROS, 16, bytes, length), number, row));
-        CHECK(refused(res_table_config_order(ZEROS, 15, bytes, length), RES_TABLE_CONFIG_FEWER_THAN_16));
-        for (size_t j = 0; j < sizeof AGES / sizeof *AGES; j++) {
+        CHECK(refused(res_table_config_order(ZEROS, 15, bytes, length), RES_TABLE_CONFIG_TOO_FEW_BYTES));
+        for (size_t j = 0; j < 12; j++) {
             CHECK(carries(res_table_config_aged_text(bytes, length, AGES[j], out, 0), number, row));
             CHECK(carries(res_table_config_replaced(bytes, length, AGES[j]), number, row));
             CHECK(carries(res_table_config_marks(bytes, length, AGES[j], out, 0), number, row));
@@ -248,7 +244,7 @@ static void header(void) {
     CHECK(res_table_config_number(answer) == RES_TABLE_CONFIG_TOO_MUCH_INPUT);
     CHECK(res_table_config_carried(answer) == 0xfffffff9u && res_table_config_amount(answer) == 0);
     CHECK(res_table_config_amount(0xfffffff9u) == 0xfffffff9u && res_table_config_carried(0xfffffff9u) == 0);
-    CHECK(RES_TABLE_CONFIG_UNREAD_FIELD == 6 && RES_TABLE_CONFIG_MARKS == 14);
+    CHECK(RES_TABLE_CONFIG_UNREAD_FIELD == 6 && RES_TABLE_CONFIG_MARKS == 14 && RES_TABLE_TYPE_HEAD == 10);
     CHECK(same(res_table_config_field(0), "size") && same(res_table_config_field(8), "screen_size_dp"));
     CHECK(same(res_table_config_field(10), "locale_variant") && same(res_table_config_field(14), "end_padding"));
     CHECK(same(res_table_config_field(15), "") && same(res_table_config_field(0xffffffffu), ""));
@@ -265,6 +261,7 @@ int main(void) {
     order();
     cut();
     header();
+    types();
     checks = face_from_cpp(&failures);
     ended("C++");
     return all_failures != 0;

@@ -17,7 +17,7 @@ int memcmp(const void *a, const void *b, size_t count);
 long read(int file, void *to, size_t count);
 long write(int file, const void *from, size_t count);
 
-/* What crates/test_probe exports for this run. */
+/* What crates/test_probe and crates/test_probe_chunks export for this run. */
 uint64_t probe_first_line(const uint8_t *bytes, size_t len, uint32_t age, uint8_t *out, size_t cap);
 uint64_t probe_line(const uint8_t *bytes, size_t len, uint32_t age, size_t index, size_t offset, uint8_t *out, size_t cap);
 uint64_t probe_next(const uint8_t *bytes, size_t len, uint32_t age, size_t index, size_t offset, uint8_t *out, size_t cap);
@@ -26,8 +26,20 @@ size_t probe_records(const uint8_t *bytes, size_t len, size_t offset);
 size_t probe_row(const uint8_t *bytes, size_t len, size_t offset);
 uint64_t probe_record_line(const uint8_t *bytes, size_t len, uint32_t age, size_t index, size_t offset, uint8_t *out, size_t cap);
 uint64_t probe_write(const uint8_t *bytes, size_t len, uint32_t size, uint8_t *out, size_t cap);
+uint64_t probe_chunk_stop(const uint8_t *bytes, size_t len, size_t offset);
+size_t probe_chunk_end(const uint8_t *bytes, size_t len, size_t offset);
+size_t probe_chunks(const uint8_t *bytes, size_t len, size_t offset);
+uint64_t probe_chunk_step(const uint8_t *bytes, size_t len, size_t offset, uint32_t age, uint8_t *out, size_t cap);
+size_t probe_chunk_next(const uint8_t *bytes, size_t len, size_t offset, uint32_t age);
+uint64_t probe_chunk_read(const uint8_t *bytes, size_t len, size_t offset, uint32_t age, uint8_t *out, size_t cap);
+size_t probe_chunk_read_next(const uint8_t *bytes, size_t len, size_t offset, uint32_t age);
 
-enum { TAKE, TEXT, AGED_TEXT, REPLACED, MARKS, ORDER, FIRST_LINE, LINE, NEXT, WALK, RECORDS, WRITE, ROW, RECORD_LINE, END = 255 };
+enum {
+    TAKE, TEXT, AGED_TEXT, REPLACED, MARKS, ORDER, FIRST_LINE, LINE, NEXT, WALK, RECORDS, WRITE, ROW, RECORD_LINE,
+    TYPE_TAKE, TYPE_HEAD, TYPE_TEXT, TYPE_MARKS, CHUNK_STOP, CHUNK_END, CHUNKS, CHUNK_STEP, CHUNK_NEXT, CHUNK_READ, CHUNK_READ_NEXT,
+    CALLS,
+    END = 255
+};
 
 #define HEADER 33
 #define ANSWER 13
@@ -123,6 +135,24 @@ static int kept(const uint8_t *at, const uint8_t *mine, const uint8_t *bytes, si
     return !memcmp(at, mine, GUARD) && !memcmp(at + GUARD, bytes, length) && !memcmp(at + GUARD + length, mine, GUARD);
 }
 
+/* Makes the call of a question on chunks. */
+static uint64_t call_on_chunks(const struct question *q, const uint8_t *a, uint8_t *to) {
+    size_t length = q->first_length, lent = q->lent;
+    switch (q->tag) {
+    case TYPE_TAKE: return res_table_type_take(a, length);
+    case TYPE_HEAD: return res_table_type_head(a, length, to, lent);
+    case TYPE_TEXT: return res_table_type_aged_text(a, length, q->number, to, lent);
+    case TYPE_MARKS: return res_table_type_marks(a, length, q->number, to, lent);
+    case CHUNK_STOP: return probe_chunk_stop(a, length, q->offset);
+    case CHUNK_END: return probe_chunk_end(a, length, q->offset);
+    case CHUNKS: return probe_chunks(a, length, q->offset);
+    case CHUNK_STEP: return probe_chunk_step(a, length, q->offset, q->number, to, lent);
+    case CHUNK_NEXT: return probe_chunk_next(a, length, q->offset, q->number);
+    case CHUNK_READ: return probe_chunk_read(a, length, q->offset, q->number, to, lent);
+    default: return probe_chunk_read_next(a, length, q->offset, q->number);
+    }
+}
+
 /* Makes the call of a question. */
 static uint64_t call(const struct question *q, const uint8_t *a, const uint8_t *b, uint8_t *to) {
     size_t length = q->first_length, lent = q->lent;
@@ -140,7 +170,8 @@ static uint64_t call(const struct question *q, const uint8_t *a, const uint8_t *
     case RECORDS: return probe_records(a, length, q->offset);
     case WRITE: return probe_write(a, length, q->number, to, lent);
     case ROW: return probe_row(a, length, q->offset);
-    default: return probe_record_line(a, length, q->number, q->index, q->offset, to, lent);
+    case RECORD_LINE: return probe_record_line(a, length, q->number, q->index, q->offset, to, lent);
+    default: return call_on_chunks(q, a, to);
     }
 }
 
@@ -166,7 +197,7 @@ int main(void) {
     for (size_t i = 0; i < AREA; i++) nobodys[i] = (uint8_t)(0xf5 + i % TURN);
     for (uint64_t count = 0; asked(&q); count++) {
         if (q.tag == END) return !(answered(END, count, in, 0) && flush());
-        if (q.tag > RECORD_LINE || !answer(&q, count % TURN)) return 1;
+        if (q.tag >= CALLS || !answer(&q, count % TURN)) return 1;
     }
     return 1;
 }

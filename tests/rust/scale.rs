@@ -1,5 +1,6 @@
 //! The comparison at scale. `ask` writes questions, the driver tests/c/scale.c makes the port's calls and writes what came of
 //! them, and `check`, which makes the same questions again, holds every answer and every lent byte to 000 and to 01's rules.
+mod chunks;
 mod cuts;
 pub mod expected;
 pub mod inputs;
@@ -30,10 +31,21 @@ pub enum Call {
     Write,
     Row,
     RecordLine,
+    TypeTake,
+    TypeHead,
+    TypeText,
+    TypeMarks,
+    ChunkStop,
+    ChunkEnd,
+    Chunks,
+    ChunkStep,
+    ChunkNext,
+    ChunkRead,
+    ChunkReadNext,
 }
 
 /// The calls with their names.
-pub const CALLS: [(Call, &str); 14] = [
+pub const CALLS: [(Call, &str); 25] = [
     (Call::Take, "take"),
     (Call::Text, "text"),
     (Call::AgedText, "aged text"),
@@ -48,6 +60,17 @@ pub const CALLS: [(Call, &str); 14] = [
     (Call::Write, "write"),
     (Call::Row, "row"),
     (Call::RecordLine, "rec line"),
+    (Call::TypeTake, "type take"),
+    (Call::TypeHead, "type head"),
+    (Call::TypeText, "type text"),
+    (Call::TypeMarks, "type marks"),
+    (Call::ChunkStop, "chunk stop"),
+    (Call::ChunkEnd, "chunk end"),
+    (Call::Chunks, "chunks"),
+    (Call::ChunkStep, "chunk step"),
+    (Call::ChunkNext, "step next"),
+    (Call::ChunkRead, "chunk read"),
+    (Call::ChunkReadNext, "read next"),
 ];
 
 /// A question: a call with what it is made with, and what it is to write.
@@ -173,11 +196,12 @@ fn source_of(name: &str, seed: &str) -> Result<Box<dyn Source>, String> {
         "made" => Ok(Box::new(inputs::Made::new(seed))),
         "mutated" => Ok(Box::new(mutations::Mutated::new(seed))),
         "cut" => Ok(Box::new(cuts::Cuts::new(seed))),
+        "chunk" => Ok(Box::new(chunks::Chunks::new(seed))),
         _ => Err(format!("no questions are called {name}")),
     }
 }
 
-/// Writes questions: so many that are made, for so many seconds those that are mutated, or all on records that are cut.
+/// Writes questions: so many that are made, for so many seconds those that are mutated, or all on records that are cut or on chunks.
 pub fn ask(name: &str, seed: &str, limit: Option<&str>) -> Result<(), String> {
     let mut source = source_of(name, seed)?;
     let limit = limit.map_or(Ok(u64::MAX), str::parse).map_err(|e| format!("the limit: {e}"))?;

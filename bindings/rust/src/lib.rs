@@ -1,7 +1,8 @@
-//! Android's resource configuration records, over the proved crate `res_table_config` (`include/res_table_config.h` is its C face).
+//! Android's resource configuration records, and the type chunks of a resource table that hold them, over the proved crate
+//! `res_table_config` (`include/res_table_config.h` is its C face).
 //!
-//! Six functions on slices. Each takes every input: what it can't do it refuses with a [`Refusal`], and a refusal writes
-//! nothing. Ages are plain numbers; twelve of them are ages.
+//! Ten functions on slices, six on records and four, which begin with `type_`, on type chunks. Each takes every input: what it can't do it
+//! refuses with a [`Refusal`], and a refusal writes nothing. Ages are plain numbers; twelve of them are ages.
 //!
 //! ```
 //! let record = *b"\x10\0\0\0\x36\x01\0\0enUS\x01\0\xf0\0";
@@ -14,7 +15,7 @@
 use std::cmp::Ordering;
 use std::fmt;
 
-/// How many bytes the longest text has: with as much room, [`text`] and [`aged_text`] never refuse with
+/// How many bytes the longest text has: with as much room, [`text`], [`aged_text`] and [`type_aged_text`] never refuse with
 /// [`Refusal::ShortBuffer`].
 pub const TEXT_MOST: usize = 344;
 
@@ -41,11 +42,11 @@ pub const FIELDS: [&str; 15] = [
     "end_padding",
 ];
 
-/// Why a call is refused. The functions of this crate give the first six.
+/// Why a call is refused. The functions of this crate give all but the last two.
 #[derive(Clone, Copy, Debug, PartialEq, Eq, Hash)]
 pub enum Refusal {
-    /// There are fewer than 16 bytes.
-    FewerThan16,
+    /// There are fewer than the 16 bytes that a record has at the least, or than the 20 of a chunk's head.
+    TooFewBytes,
     /// There are 16 bytes or more, and fewer than the record's size: a field that the size holds ends past them. The first such field
     /// is the one of this row of [`FIELDS`], from 4 to 14.
     FieldCut(usize),
@@ -58,6 +59,10 @@ pub enum Refusal {
     HeldBack,
     /// The lent buffer is shorter than what is to be written.
     ShortBuffer,
+    /// The chunk's type isn't 0x0201.
+    WrongType,
+    /// The chunk's header size is below 20 or above its chunk size, or that is above the bytes given.
+    WrongSizes,
     /// A field that isn't read at the record's size isn't zero.
     UnreadField,
     /// There are more than 65,536 bytes of input.
@@ -68,7 +73,7 @@ impl Refusal {
     /// The refusal of a number, with what it carries.
     fn of(number: u32, carried: usize) -> Refusal {
         match number {
-            1 => Refusal::FewerThan16,
+            1 => Refusal::TooFewBytes,
             2 => Refusal::FieldCut(carried),
             3 => Refusal::NotAnAge,
             4 => Refusal::HeldBack,
@@ -76,11 +81,13 @@ impl Refusal {
             6 => Refusal::UnreadField,
             7 => Refusal::TooMuchInput,
             8 => Refusal::UndecodedCut,
-            _ => unreachable!("the C face refuses with no other number than 1 to 8, not with {number}"),
+            9 => Refusal::WrongType,
+            10 => Refusal::WrongSizes,
+            _ => unreachable!("the C face refuses with no other number than 1 to 10, not with {number}"),
         }
     }
 
-    /// The refusal's number, from 1 to 8.
+    /// The refusal's number, from 1 to 10.
     ///
     /// ```
     /// use res_table_config::Refusal;
@@ -90,7 +97,7 @@ impl Refusal {
     /// ```
     pub fn number(self) -> u32 {
         match self {
-            Refusal::FewerThan16 => 1,
+            Refusal::TooFewBytes => 1,
             Refusal::FieldCut(_) => 2,
             Refusal::NotAnAge => 3,
             Refusal::HeldBack => 4,
@@ -98,6 +105,8 @@ impl Refusal {
             Refusal::UnreadField => 6,
             Refusal::TooMuchInput => 7,
             Refusal::UndecodedCut => 8,
+            Refusal::WrongType => 9,
+            Refusal::WrongSizes => 10,
         }
     }
 }
@@ -111,7 +120,7 @@ impl Refusal {
 impl fmt::Display for Refusal {
     fn fmt(&self, f: &mut fmt::Formatter<'_>) -> fmt::Result {
         f.write_str(match self {
-            Refusal::FewerThan16 => "fewer than 16 bytes",
+            Refusal::TooFewBytes => "fewer bytes than a record or a chunk's head has",
             Refusal::FieldCut(row) => {
                 let name = FIELDS.get(*row).unwrap_or(&"which no record has");
                 return write!(f, "cut inside field {row}, {name}");
@@ -120,6 +129,8 @@ impl fmt::Display for Refusal {
             Refusal::NotAnAge => "not one of the twelve ages",
             Refusal::HeldBack => "held back: a byte past the age isn't zero",
             Refusal::ShortBuffer => "the buffer is too short",
+            Refusal::WrongType => "the chunk's type isn't 0x0201",
+            Refusal::WrongSizes => "the chunk's header size or chunk size can't be",
             Refusal::UnreadField => "a field that isn't read isn't zero",
             Refusal::TooMuchInput => "more than 65,536 bytes of input",
         })
@@ -136,6 +147,10 @@ mod face {
         pub fn res_table_config_replaced(bytes: *const u8, len: usize, age: u32) -> u64;
         pub fn res_table_config_marks(bytes: *const u8, len: usize, age: u32, out: *mut u8, cap: usize) -> u64;
         pub fn res_table_config_order(a: *const u8, a_len: usize, b: *const u8, b_len: usize) -> u64;
+        pub fn res_table_type_take(bytes: *const u8, len: usize) -> u64;
+        pub fn res_table_type_head(bytes: *const u8, len: usize, out: *mut u8, cap: usize) -> u64;
+        pub fn res_table_type_aged_text(bytes: *const u8, len: usize, age: u32, out: *mut u8, cap: usize) -> u64;
+        pub fn res_table_type_marks(bytes: *const u8, len: usize, age: u32, out: *mut u8, cap: usize) -> u64;
     }
 }
 
@@ -150,13 +165,13 @@ fn told(answer: u64) -> Result<usize, Refusal> {
 
 /// How many bytes the record at the front of `bytes` takes: its size, 16 at the least.
 ///
-/// Refuses with [`Refusal::FewerThan16`], and with [`Refusal::FieldCut`] or [`Refusal::UndecodedCut`] where it isn't whole.
+/// Refuses with [`Refusal::TooFewBytes`], and with [`Refusal::FieldCut`] or [`Refusal::UndecodedCut`] where it isn't whole.
 ///
 /// ```
 /// use res_table_config::{take, Refusal};
 /// let mut record = [0; 65];
 /// assert_eq!(take(&record), Ok(16));
-/// assert_eq!(take(&record[..15]), Err(Refusal::FewerThan16));
+/// assert_eq!(take(&record[..15]), Err(Refusal::TooFewBytes));
 /// record[0] = 65;
 /// assert_eq!(take(&record[..40]), Err(Refusal::FieldCut(10)));
 /// assert_eq!(take(&record[..64]), Err(Refusal::UndecodedCut));
@@ -249,4 +264,87 @@ pub fn order(a: &[u8], b: &[u8]) -> Result<Ordering, Refusal> {
     // SAFETY: pointers and lengths are those of two slices that live through the call.
     let answer = unsafe { face::res_table_config_order(a.as_ptr(), a.len(), b.as_ptr(), b.len()) };
     told(answer).map(|amount| amount.cmp(&1))
+}
+
+/// What the head of a type chunk says, as it is stored.
+#[derive(Clone, Copy, Debug, PartialEq, Eq, Hash)]
+pub struct Head {
+    /// The type's number in its package.
+    pub id: u8,
+    /// The flags: 1 for entries that are stored sparsely, for example.
+    pub flags: u8,
+    /// How many entries there are.
+    pub entry_count: u32,
+    /// The offset in the chunk where they start. No call of this crate looks there.
+    pub entries_start: u32,
+}
+
+/// How many bytes the type chunk at the front of `bytes` takes: its chunk size. The next chunk begins there.
+///
+/// Refuses with [`Refusal::TooFewBytes`], [`Refusal::WrongType`] and [`Refusal::WrongSizes`], then as [`take`] does of the record that begins at
+/// byte 20 and has to lie within the header.
+///
+/// ```
+/// use res_table_config::{type_take, Refusal};
+/// let mut chunk = *b"\x01\x02\x24\0\x28\0\0\0\x07\0\0\0\x01\0\0\0\x24\0\0\0\x10\0\0\0\0\0\0\0sv\0\0\0\0\0\0\xff\xff\xff\xff";
+/// assert_eq!(type_take(&chunk), Ok(40));
+/// assert_eq!(type_take(&chunk[..39]), Err(Refusal::WrongSizes));
+/// chunk[0] = 2;
+/// assert_eq!(type_take(&chunk), Err(Refusal::WrongType));
+/// ```
+pub fn type_take(bytes: &[u8]) -> Result<usize, Refusal> {
+    // SAFETY: as for take.
+    told(unsafe { face::res_table_type_take(bytes.as_ptr(), bytes.len()) })
+}
+
+/// What the head of the type chunk at the front of `bytes` says.
+///
+/// Refuses as [`type_take`] does.
+///
+/// ```
+/// let chunk = *b"\x01\x02\x24\0\x24\0\0\0\x07\0\0\0\x05\0\0\0\x24\0\0\0\x10\0\0\0\0\0\0\0sv\0\0\0\0\0\0";
+/// let head = res_table_config::type_head(&chunk)?;
+/// assert_eq!((head.id, head.flags, head.entry_count, head.entries_start), (7, 0, 5, 36));
+/// # Ok::<(), res_table_config::Refusal>(())
+/// ```
+pub fn type_head(bytes: &[u8]) -> Result<Head, Refusal> {
+    let mut head = [0; 10];
+    // SAFETY: as for text; the array is the call's own.
+    told(unsafe { face::res_table_type_head(bytes.as_ptr(), bytes.len(), head.as_mut_ptr(), head.len()) })?;
+    let [id, flags, a, b, c, d, e, f, g, h] = head;
+    let (entry_count, entries_start) = (u32::from_le_bytes([a, b, c, d]), u32::from_le_bytes([e, f, g, h]));
+    Ok(Head { id, flags, entry_count, entries_start })
+}
+
+/// Writes the text of the record in the type chunk at the front of `bytes`, for a reader of an age, to the front of `out`, and gives it.
+///
+/// Refuses with [`Refusal::NotAnAge`], then as [`type_take`] does, then with [`Refusal::HeldBack`] and [`Refusal::ShortBuffer`]. Bytes of the
+/// header behind the record never hold back.
+///
+/// ```
+/// use res_table_config::{type_aged_text, TEXT_MOST};
+/// let chunk = *b"\x01\x02\x24\0\x24\0\0\0\x07\0\0\0\x05\0\0\0\x24\0\0\0\x10\0\0\0\0\0\0\0sv\0\0\0\0\0\0";
+/// assert_eq!(type_aged_text(&chunk, 64, &mut [0; TEXT_MOST]), Ok(&b"sv"[..]));
+/// ```
+pub fn type_aged_text<'a>(bytes: &[u8], age: u32, out: &'a mut [u8]) -> Result<&'a [u8], Refusal> {
+    // SAFETY: as for text.
+    let answer =
+        unsafe { face::res_table_type_aged_text(bytes.as_ptr(), bytes.len(), age, out.as_mut_ptr(), out.len()) };
+    told(answer).map(|written| &out[..written])
+}
+
+/// The marks of the record in the type chunk at the front of `bytes` for a reader of an age, as [`marks`] gives them of a record.
+///
+/// Refuses with [`Refusal::NotAnAge`], then as [`type_take`] does.
+///
+/// ```
+/// use res_table_config::type_marks;
+/// let chunk = *b"\x01\x02\x24\0\x24\0\0\0\x07\0\0\0\x05\0\0\0\x24\0\0\0\x10\0\0\0\0\0\0\0sv\0\0\0\0\0\0";
+/// assert_eq!(type_marks(&chunk, 20), Ok(*b"BFBAUUUUUUUUUU"));
+/// ```
+pub fn type_marks(bytes: &[u8], age: u32) -> Result<[u8; MARKS], Refusal> {
+    let mut letters = [0; MARKS];
+    // SAFETY: as for marks.
+    told(unsafe { face::res_table_type_marks(bytes.as_ptr(), bytes.len(), age, letters.as_mut_ptr(), MARKS) })?;
+    Ok(letters)
 }

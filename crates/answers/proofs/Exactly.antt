@@ -9,9 +9,10 @@ use lib.Dec.{T, eqb}
 use borrow.Author.Tests.{eqb-false}
 use Rattle.laws.proofs.Choice.{cond-not}
 use Rattle.answers.specs.declared.Refusal.{Refusal}
+use Rattle.answers.specs.declared.Taken.{Taken}
 use Rattle.answers.specs.declared.Told.{Told}
 use Rattle.answers.specs.Numbers.{numberOf}
-use Rattle.answers.specs.Tells.{success, refusal}
+use Rattle.answers.specs.Tells.{success, refusal, takenTells}
 use Rattle.answers.specs.Demand1.{Condition, NoneOf, FirstOf, Exactly}
 use Rattle.answers.proofs.OneToOne.{number-pos, told-one}
 
@@ -19,6 +20,11 @@ use Rattle.answers.proofs.OneToOne.{number-pos, told-one}
 abbrev pub byRow : {A : Type 0} → List Condition → (Refusal → A) → A → A
 byRow [] refuse give = give
 byRow (c ∷ row) refuse give = cond (c .holds) (refuse (c .why)) (byRow row refuse give)
+
+-- what is given by the answer of a call that takes bytes
+abbrev pub byAnswer : {A : Type 0} → (Refusal → A) → (ℕ → A) → Taken → A
+byAnswer refuse give (Taken.Took n) = give n
+byAnswer refuse give (Taken.Refused why) = refuse why
 
 -- o is what comes of a row
 pub record Goes {A : Type 0} (row : List Condition) (refuse : Refusal → A) (give : A) (o : A) : Type 0 where
@@ -45,12 +51,12 @@ module _ {A : Type 0} (refuse : Refusal → A) (give : A) where
   first-by why b r rest more (inr h) = rw (h .0) (more (h .1))
 
   -- the first refusal of a row is the one that comes
-  row-first : (why : Refusal) (row : List Condition) → FirstOf why row → byRow row refuse give ≡ refuse why
+  pub row-first : (why : Refusal) (row : List Condition) → FirstOf why row → byRow row refuse give ≡ refuse why
   row-first why [] h = absurd h
   row-first why (c ∷ row) h = first-by why (c .holds) (c .why) (byRow row refuse give) (row-first why row) h
 
   -- and where no condition holds, the call gives
-  row-none : (row : List Condition) → NoneOf row → byRow row refuse give ≡ give
+  pub row-none : (row : List Condition) → NoneOf row → byRow row refuse give ≡ give
   row-none [] h = refl
   row-none (c ∷ row) h = rw (h .0) (row-none row (h .1))
 
@@ -99,6 +105,46 @@ module _ {A : Type 0} (told : A → Told) (refuse : Refusal → A) (give : A) (b
   pub row-stays : {row : List Condition} {o : A} → Goes row refuse give o → (P : A → Type 0) → ((why : Refusal) → P (refuse why))
       → (told o .number ≡ 0 → ⊥) → P o
   row-stays {row} g P p = rw (g .by) (stays P p row)
+
+-- a call that takes n bytes goes by a row: what it answers says how every other call goes by that row
+module _ (row : List Condition) (n : ℕ) where
+  abbrev Told-by : Told → Type 0
+  Told-by t = t ≡ byRow row refusal (success n)
+
+  pub took-none : (m : ℕ) → Told-by (success m) → (m ≡ n) × NoneOf row
+  took-none m e =
+      let none = row-gave (λ (t : Told). t) refusal (success n) (λ why. refl) refl row (sym (ap (λ (t : Told). t .number) e)) in
+      (ap (λ (t : Told). t .amount) (e ∙ row-none refusal (success n) row none), none)
+
+  pub refused-first : (why : Refusal) → Told-by (refusal why) → FirstOf why row
+  refused-first why e = row-refused (λ (t : Told). t) refusal (success n) (λ why. refl) refl why row (sym e)
+
+  pub answered : {A : Type 0} (refuse : Refusal → A) (give : ℕ → A) (r : Taken) → Told-by (takenTells r) → byRow row refuse (give n) ≡ byAnswer refuse give r
+  answered refuse give (Taken.Took m) e = let t = took-none m e in row-none refuse (give n) row (t .1) ∙ ap give (sym (t .0))
+  answered refuse give (Taken.Refused why) e = row-first refuse (give n) why row (refused-first why e)
+
+-- a call that takes bytes by a row has an answer
+pub record Answering (row : List Condition) (n : ℕ) : Type 0 where
+  pub answer : Taken
+  pub told : takenTells answer ≡ byRow row refusal (success n)
+
+answer-by : (b : Bool) (why : Refusal) {row : List Condition} {n : ℕ} → Answering row n → Answering (record { holds = b; why = why } ∷ row) n
+answer-by true why later = record { answer = Taken.Refused why; told = refl }
+answer-by false why later = record { answer = later .answer; told = later .told }
+
+pub answering : (row : List Condition) (n : ℕ) → Answering row n
+answering [] n = record { answer = Taken.Took n; told = refl }
+answering (c ∷ row) n = answer-by (c .holds) (c .why) (answering row n)
+
+-- what is said of a call is said of each way that it goes
+map-by : {A B : Type 0} (f : A → B) (b : Bool) (x y : A) (z : B) → f y ≡ z → f (cond b x y) ≡ cond b (f x) z
+map-by f true x y z e = refl
+map-by f false x y z e = e
+
+pub row-map : {A B : Type 0} (f : A → B) (row : List Condition) (refuse : Refusal → A) (give : A)
+    → f (byRow row refuse give) ≡ byRow row (λ why. f (refuse why)) (f give)
+row-map f [] refuse give = refl
+row-map f (c ∷ row) refuse give = map-by f (c .holds) (refuse (c .why)) (byRow row refuse give) _ (row-map f row refuse give)
 
 -- of a call that answers by what is told
 pub told-exactly : {row : List Condition} {n : ℕ} {t : Told} → Goes row refusal (success n) t → Exactly row t

@@ -18,7 +18,7 @@ one-to-one f back there a b e = sym (there a) ∙ ap back e ∙ there b
 -- the refusals by their numbers, from 1, each with what it carries
 unfoldable pub refusals : ℕ → List Refusal
 refusals carried =
-    Refusal.FewerThan16
+    Refusal.TooFewBytes
     ∷ Refusal.FieldCut carried
     ∷ Refusal.NotAnAge
     ∷ Refusal.HeldBack
@@ -26,11 +26,13 @@ refusals carried =
     ∷ Refusal.UnreadField
     ∷ Refusal.TooMuchInput
     ∷ Refusal.UndecodedCut
+    ∷ Refusal.WrongType
+    ∷ Refusal.WrongSizes
     ∷ []
 
 abbrev byNumber : {A : Type 0} → (ℕ → A) → (Refusal → A) → ℕ → ℕ → ℕ → A
 byNumber ok bad zero amount carried = ok amount
-byNumber ok bad (suc k) amount carried = bad (getD (refusals carried) k Refusal.FewerThan16)
+byNumber ok bad (suc k) amount carried = bad (getD (refusals carried) k Refusal.TooFewBytes)
 
 -- the way back from what is told, for an answer that is ok of its amount or bad of a refusal
 unfoldable pub back : {A : Type 0} → (ℕ → A) → (Refusal → A) → Told → A
@@ -44,7 +46,7 @@ ok-back ok bad amount = refl
 -- a refusal comes back from what it tells
 pub refused-back : {A : Type 0} (ok : ℕ → A) (bad : Refusal → A) (why : Refusal) → back ok bad (refusal why) ≡ bad why
 unfolding back refusals
-refused-back ok bad Refusal.FewerThan16 = refl
+refused-back ok bad Refusal.TooFewBytes = refl
 refused-back ok bad (Refusal.FieldCut row) = refl
 refused-back ok bad Refusal.NotAnAge = refl
 refused-back ok bad Refusal.HeldBack = refl
@@ -52,6 +54,8 @@ refused-back ok bad Refusal.ShortBuffer = refl
 refused-back ok bad Refusal.UnreadField = refl
 refused-back ok bad Refusal.TooMuchInput = refl
 refused-back ok bad Refusal.UndecodedCut = refl
+refused-back ok bad Refusal.WrongType = refl
+refused-back ok bad Refusal.WrongSizes = refl
 
 -- answers that come back from what they tell are one where they tell the same
 pub tells-one : {A : Type 0} (tells : A → Told) (ok : ℕ → A) (bad : Refusal → A)
@@ -66,9 +70,9 @@ written-back : (a : Written) → back Written.Wrote Written.Refused (writtenTell
 written-back (Written.Wrote n) = ok-back Written.Wrote Written.Refused n
 written-back (Written.Refused why) = refused-back Written.Wrote Written.Refused why
 
--- the numbers are 1 to 8
-numbers-are : (why : Refusal) → (0 < numberOf why) × (numberOf why ≤ 8)
-numbers-are Refusal.FewerThan16 = (lit< tt, lit≤ tt)
+-- the numbers are 1 to 10
+numbers-are : (why : Refusal) → (0 < numberOf why) × (numberOf why ≤ 10)
+numbers-are Refusal.TooFewBytes = (lit< tt, lit≤ tt)
 numbers-are (Refusal.FieldCut row) = (lit< tt, lit≤ tt)
 numbers-are Refusal.NotAnAge = (lit< tt, lit≤ tt)
 numbers-are Refusal.HeldBack = (lit< tt, lit≤ tt)
@@ -76,13 +80,15 @@ numbers-are Refusal.ShortBuffer = (lit< tt, lit≤ tt)
 numbers-are Refusal.UnreadField = (lit< tt, lit≤ tt)
 numbers-are Refusal.TooMuchInput = (lit< tt, lit≤ tt)
 numbers-are Refusal.UndecodedCut = (lit< tt, lit≤ tt)
+numbers-are Refusal.WrongType = (lit< tt, lit≤ tt)
+numbers-are Refusal.WrongSizes = (lit< tt, lit≤ tt)
 
 -- so no refusal has a success's number
 pub number-pos : (why : Refusal) → 0 < numberOf why
 number-pos why = numbers-are why .0
 
--- and 8 is the last
-pub number-most : (why : Refusal) → numberOf why ≤ 8
+-- and 10 is the last
+pub number-most : (why : Refusal) → numberOf why ≤ 10
 number-most why = numbers-are why .1
 
 told-same : {m n i j : ℕ} → m ≡ n → i ≡ j → _≡_ {A = Told} (record { number = m; amount = 0; carried = i }) (record { number = n; amount = 0; carried = j })
@@ -90,7 +96,7 @@ told-same p q = cc
 
 -- what is told fixes the refusal
 pub told-one : (a b : Refusal) → refusal a ≡ refusal b → a ≡ b
-told-one = tells-one refusal (λ m. Refusal.FewerThan16) (λ why. why) (refused-back (λ m. Refusal.FewerThan16) (λ why. why))
+told-one = tells-one refusal (λ m. Refusal.TooFewBytes) (λ why. why) (refused-back (λ m. Refusal.TooFewBytes) (λ why. why))
 
 -- so two refusals that have one number and carry the same are one
 pub number-one : (a b : Refusal) → numberOf a ≡ numberOf b → carriedBy a ≡ carriedBy b → a ≡ b

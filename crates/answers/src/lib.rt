@@ -6,8 +6,8 @@ ghost use Rattle.answers.specs.Tells.{packedOf, refusal, success, takenT
 
 // Why a call is refused.
 pub enum Refusal {
-    // There are fewer than 16 bytes.
-    FewerThan16,
+    // There are fewer bytes than stand in front in any case: 16 of a record, 20 of a type chunk.
+    TooFewBytes,
     // There are 16 bytes or more, and fewer than the record's size: the field of this row is the first that is cut.
     FieldCut(usize),
     // The age is not among the twelve.
@@ -22,6 +22,10 @@ pub enum Refusal {
     TooMuchInput,
     // There are 16 bytes or more, and fewer than the record's size: no field is cut, only undecoded bytes are lacking.
     UndecodedCut,
+    // The type of a chunk isn't 0x0201.
+    WrongType,
+    // A chunk's header is shorter than 20 bytes or longer than the chunk, or the chunk is longer than the bytes given.
+    WrongSizes,
 }
 
 // What an answer says in 01's numbers. A success has number 0 and an amount: the bytes taken or written, or what its answer enum says, as
@@ -56,7 +60,7 @@ impl Refusal {
         ensures { λ r. ⌜ r ≡ numberOf self ⌝ }
     {
         match self {
-            Self::FewerThan16 => 1,
+            Self::TooFewBytes => 1,
             Self::FieldCut(_) => 2,
             Self::NotAnAge => 3,
             Self::HeldBack => 4,
@@ -64,6 +68,8 @@ impl Refusal {
             Self::UnreadField => 6,
             Self::TooMuchInput => 7,
             Self::UndecodedCut => 8,
+            Self::WrongType => 9,
+            Self::WrongSizes => 10,
         }
     }
 
@@ -72,7 +78,7 @@ impl Refusal {
         ensures { λ r. ⌜ r ≡ carriedBy self ⌝ }
     {
         match self {
-            Self::FewerThan16 => 0,
+            Self::TooFewBytes => 0,
             Self::FieldCut(row) => row,
             Self::NotAnAge => 0,
             Self::HeldBack => 0,
@@ -80,6 +86,8 @@ impl Refusal {
             Self::UnreadField => 0,
             Self::TooMuchInput => 0,
             Self::UndecodedCut => 0,
+            Self::WrongType => 0,
+            Self::WrongSizes => 0,
         }
     }
 

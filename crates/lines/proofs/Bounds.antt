@@ -1,15 +1,15 @@
 -- How long a line is at the most: in a listing, none is longer than 1,069 bytes. Assumes nothing.
 use Prim.Native.Nat.{ℕ, suc, _+_, _≤_}
-use mathlib.Core.Path.{_≡_}
-use mathlib.Core.Bool.{cond}
-use mathlib.Core.List.{List, [], _++_}
+use mathlib.Core.Path.{_≡_, refl}
+use mathlib.Core.Bool.{Bool, true, false}
+use mathlib.Core.List.{List}
 use native.Mathlib.Omega.{arith}
 use lib.Dec.{eqb, lit<}
 use lib.ListN.{length, length-append}
+use borrow.Author.Tests.{eqb-true}
 use Rattle.answers.specs.Numbers.{numberOf}
 use Rattle.answers.specs.Tells.{success}
 use Rattle.answers.proofs.OneToOne.{number-most}
-use Rattle.laws.proofs.Choice.{chosen}
 use Rattle.buffer.specs.Decimal.{decimal}
 use Rattle.buffer.proofs.Digits.{decimal-long}
 use Rattle.record.specs.Table.{Bytes}
@@ -17,7 +17,7 @@ use Rattle.reading.specs.Reading.{takeOf, sizeOf}
 use Rattle.reading.proofs.Whole.{took-says}
 use Rattle.runs.specs.declared.Stop.{Stop}
 use Rattle.runs.specs.Fronts.{stopTells}
-use Rattle.record_line.specs.RecordLine.{space, recordLine}
+use Rattle.record_line.specs.RecordLine.{recordLine}
 use Rattle.record_line.proofs.Bounds.{record-long}
 use Rattle.lines.specs.Lines.{ageLine, reasonWords, stopLine}
 
@@ -26,19 +26,20 @@ pub age-long : (d a : ℕ) → length (decimal a) ≤ suc d → length (ageLine 
 unfolding ageLine
 age-long d a h = simp length-append (omega arith)
 
--- the number that a stop tells has one digit
-stop-digit : (stop : Stop) → length (decimal (stopTells stop .number)) ≤ 1
-stop-digit Stop.Ended = decimal-long 0 0 (lit< tt)
-stop-digit (Stop.Refused why) = decimal-long 0 (numberOf why) (omega (arith, number-most why))
+-- the number that a stop tells has two digits at the most
+stop-digits : (stop : Stop) → length (decimal (stopTells stop .number)) ≤ 2
+stop-digits Stop.Ended = decimal-long 1 0 (lit< tt)
+stop-digits (Stop.Refused why) = decimal-long 1 (numberOf why) (omega (arith, number-most why))
 
--- and the row behind a 2 has e + 1 at the most
+-- a 2 has one, and the row behind it e + 1 at the most
 reason-long : (e : ℕ) (stop : Stop) → length (decimal (stopTells stop .carried)) ≤ suc e → length (reasonWords (stopTells stop)) ≤ e + 3
 unfolding reasonWords
-reason-long e stop h =
-    let g = stop-digit stop in
-    let row : length (cond (eqb (stopTells stop .number) 2) (space ++ decimal (stopTells stop .carried)) []) ≤ e + 2
-    = chosen (λ (w : List ℕ). length w ≤ e + 2) (eqb (stopTells stop .number) 2) (omega arith) (omega arith) in
-    simp length-append (omega arith)
+reason-long e stop h = by (eqb (stopTells stop .number) 2) refl where
+  by : (b : Bool) → eqb (stopTells stop .number) 2 ≡ b → length (reasonWords (stopTells stop)) ≤ e + 3
+  by true t =
+      let two = decimal-long 0 (stopTells stop .number) (omega (arith, eqb-true (stopTells stop .number) 2 t)) in
+      rw t (simp length-append (omega arith))
+  by false t = rw t (simp length-append (omega (arith, stop-digits stop)))
 
 -- the last line, with an offset of d + 1 digits and a row of e + 1 at the most
 pub stop-long : (d e p : ℕ) (stop : Stop) → length (decimal p) ≤ suc d → length (decimal (stopTells stop .carried)) ≤ suc e

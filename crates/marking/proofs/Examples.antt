@@ -22,7 +22,7 @@ one-byte size before after = size ∷ replicate before 0 ++ (1 ∷ replicate aft
 
 pub examples :
     -- 1. fifteen zero bytes: 1; sixteen: taken, and not held back
-    (heldOf 16 (replicate 15 0) ≡ refusal Refusal.FewerThan16)
+    (heldOf 16 (replicate 15 0) ≡ refusal Refusal.TooFewBytes)
     × (heldOf 16 (replicate 16 0) ≡ success 0)
     -- 10. size 36, dp word not zero: age 32 holds back, 36 shows
     × (heldOf 32 (one-byte 36 31 3) ≡ success 1)
@@ -41,7 +41,7 @@ pub examples :
     × (marksOf 48 (one-byte 44 39 3) ≡ ascii "BBBBBBBBBAUUUU")
     -- 3, 1, 2, then 5
     × (marksOutcome 33 [] (7 ∷ []) ≡ refused Refusal.NotAnAge (7 ∷ []))
-    × (marksOutcome 64 [] (7 ∷ []) ≡ refused Refusal.FewerThan16 (7 ∷ []))
+    × (marksOutcome 64 [] (7 ∷ []) ≡ refused Refusal.TooFewBytes (7 ∷ []))
     × (marksOutcome 64 (17 ∷ replicate 15 0) (7 ∷ []) ≡ refused Refusal.UndecodedCut (7 ∷ []))
     × (marksOutcome 64 listed (replicate 13 7) ≡ refused Refusal.ShortBuffer (replicate 13 7))
     × (marksOutcome 64 listed (replicate 15 7) ≡ wrote (ascii "FFFAAAAAAAAAAA") (replicate 15 7))

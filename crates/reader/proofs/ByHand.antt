@@ -1,6 +1,6 @@
 -- What walks by hand share: of functions that ask nothing of their callers and leave their parameters as they were passed.
 --     Ensures, Promise         what a function ensures of its arguments and its result; the same as a contract
---     Fact, Promised           a plain fact of them; as a contract
+--     Fact, Promised, Says     a plain fact of them; as a contract; that it is what a function ensures
 --     Known, Knowns            a type's machine values, and that they are of its MIR type; of a list of types
 --     Walk                     a run from the arguments, at their machine values, to the promise
 --     leaves                   how a walk ends: with the tokens, what the result owns, and what is ensured
@@ -8,7 +8,7 @@
 --     var, part                a local is read; a field of a local. Its cell is entry n of the context
 --     operand                  what stands in the code for a place that is read: the place, or the number that it holds
 --     sets, stores, gone       a local is assigned to, takes a call's result, is freed
---     framed, kept             a function keeps its promise, from a walk of its MIR
+--     framed, kept             a function keeps its promise, from a walk of its MIR and the fact that it ensures
 -- All but the definitions take `Given`.
 use Prim.Native.Nat.{ℕ, zero, _+_, _^_}
 use mathlib.Core.Path.{_≡_, refl, sym, ap, subst}
@@ -56,8 +56,13 @@ Ensures 𝓤 T = (κs : Lfts (T .signature .lifetimes)) → Args (T .signature) 
 abbrev pub Fact : Ended → Type 1
 Fact T = (κs : Lfts (T .signature .lifetimes)) → Args (T .signature) κs → Res (T .signature) κs → Type 0
 
-abbrev plainly : {M : Type 1} (𝓤 : URA M) (T : Ended) → Fact T → Ensures 𝓤 T
+abbrev pub plainly : {M : Type 1} (𝓤 : URA M) (T : Ended) → Fact T → Ensures 𝓤 T
 plainly 𝓤 T φ κs a r end = fact 𝓤 (φ κs a r)
+
+-- what is ensured is the fact φ
+abbrev pub Says : {M : Type 1} (𝓤 : URA M) (T : Ended) → Fact T → Ensures 𝓤 T → Type 2
+Says 𝓤 T φ E = (κs : Lfts (T .signature .lifetimes)) (a : Args (T .signature) κs) (r : Res (T .signature) κs) (end : AtExit T κs)
+    → E κs a r end ≡ fact 𝓤 (φ κs a r)
 
 -- nothing is to be said of any parameter's last value
 abbrev Silence : (T : Ended) (κs : Lfts (T .signature .lifetimes)) → Args (T .signature) κs → Type 0
@@ -178,7 +183,7 @@ module _ {M : Type 1} (𝓤 : URA M) (H : Heap 𝓤) (A : Atoms 𝓤) where
         show ! (λ (r′ : Gave .Denot). guard 𝓤 (Fine r′) (Handed r′)) r $ check ! (e, is) $ move ! (1 ∷ 0 ∷ []) $ done !))))
 
 -- an operand stands for the place p, which holds u: it is p, or u as a number
-abbrev For : Place → Val → Operand → Type 0
+abbrev pub For : Place → Val → Operand → Type 0
 For p u (copy q) = p ≡ q
 For p u (int w k) = _≡_ {A = Bool × Val} (true, u) (ltb k (2 ^ bits w), vint w k)
 For p u (intNeg w k) = ⊥
@@ -269,7 +274,10 @@ module _ {M : Type 1} (𝓤 : URA M) (H : Heap 𝓤) (𝓜 : Model 𝓤 H) (𝓖
   unfolding tablesOf
   framed = fmOf 𝓤 H (givenOf 𝓤 H 𝓜 𝓖 .laws) (tablesOf 𝓤 H 𝓜 (tables 𝓤 H 𝓜 𝓡 γ))
 
-  pub kept : (k : Name) (f : Fn) → Closed 𝓤 H C Λ k f → (T : Ended) (E : Ensures 𝓤 T)
+  pub kept : (k : Name) (f : Fn) → Closed 𝓤 H C Λ k f → (T : Ended) (φ : Fact T)
       (ns : (κs : Lfts (T .signature .lifetimes)) → Knowns 𝓤 H (𝓖 .A) (typesAt (T .signature .params) κs))
-      → Walk 𝓤 H (𝓖 .A) T E ns (WpFn 𝓤 H C Λ f) → Triple 𝓤 (𝓡 .run (γ k)) (Promise 𝓤 H (𝓖 .A) T E)
-  kept k f closed T E ns walk = entered 𝓤 H (Promise 𝓤 H (𝓖 .A) T E) C Λ k f closed (walked 𝓤 H (𝓖 .A) T E ns (WpFn 𝓤 H C Λ f) walk)
+      → Walk 𝓤 H (𝓖 .A) T (plainly 𝓤 T φ) ns (WpFn 𝓤 H C Λ f) → (E : Ensures 𝓤 T) → Says 𝓤 T φ E
+      → Triple 𝓤 (𝓡 .run (γ k)) (Promise 𝓤 H (𝓖 .A) T E)
+  kept k f closed T φ ns walk E says =
+      subst (λ (F : Ensures 𝓤 T). Triple 𝓤 (𝓡 .run (γ k)) (Promise 𝓤 H (𝓖 .A) T F)) (λ i κs a r end. sym (says κs a r end) i)
+      (entered 𝓤 H (Promised 𝓤 H (𝓖 .A) T φ) C Λ k f closed (walked 𝓤 H (𝓖 .A) T (plainly 𝓤 T φ) ns (WpFn 𝓤 H C Λ f) walk))

@@ -36,7 +36,7 @@ module _ (s : List ℕ) where
   -- 1
   pub one-exactly : TooFew s
   one-exactly = (says, whole-short s _ _) where
-    says : takeOf s ≡ refusal Refusal.FewerThan16 → length s < 16
+    says : takeOf s ≡ refusal Refusal.TooFewBytes → length s < 16
     says e =
         elim (front s) [
           | short h ↦ h

@@ -28,7 +28,7 @@ module _ {A : Type 0} {row : List Condition} {refuse : Refusal → A} {give o : 
   age-row a g = one-unless (isAge a) Refusal.NotAnAge g
 
 -- a call that gives a record
-gives-exactly : {row : List Condition} {n : ℕ} {r : ResTableConfig} {o : ParseOutcome} → Goes row parseRefused (parseTook n r) o → Exactly row (o .tells)
+pub gives-exactly : {row : List Condition} {n : ℕ} {r : ResTableConfig} {o : ParseOutcome} → Goes row parseRefused (parseTook n r) o → Exactly row (o .tells)
 gives-exactly {n = n} {r = r} g = row-exactly (λ (o : ParseOutcome). o .tells) parseRefused (parseTook n r) (λ why. refl) refl g
 
 -- `take`: 1, 2 or 8

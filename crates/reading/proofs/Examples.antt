@@ -24,7 +24,7 @@ wide = from32 36 (64 ∷ 1 ∷ 224 ∷ 1 ∷ [])
 
 pub examples :
     -- 1. fifteen zero bytes: 1; sixteen: taken, and nothing is in the record, although its size is 0
-    (parseOf (replicate 15 0) .tells ≡ refusal Refusal.FewerThan16)
+    (parseOf (replicate 15 0) .tells ≡ refusal Refusal.TooFewBytes)
     × (parseOf (replicate 16 0) ≡ record { tells = success 16; gives = blankRecord })
     × (takeOf (replicate 40 0) ≡ success 16)
     -- 2. size 17 in 16 bytes: 8; in 17: takes 17

@@ -17,12 +17,12 @@ formerTwo = Refusal.FieldCut 0
 -- what was given then where a whole record stands at the front of s
 unfoldable pub formerWhole : {A : Type 0} → List ℕ → (Refusal → A) → A → A
 formerWhole s refuse give =
-    cond (ltb (length s) 16) (refuse Refusal.FewerThan16)
+    cond (ltb (length s) 16) (refuse Refusal.TooFewBytes)
     (cond (ltb (length s) (sizeOf s)) (refuse formerTwo) give)
 
 -- a refusal with the row forgotten, and 8 as the 2 that it was
 abbrev pub former : Refusal → Refusal
-former Refusal.FewerThan16 = Refusal.FewerThan16
+former Refusal.TooFewBytes = Refusal.TooFewBytes
 former (Refusal.FieldCut row) = formerTwo
 former Refusal.NotAnAge = Refusal.NotAnAge
 former Refusal.HeldBack = Refusal.HeldBack
@@ -30,6 +30,8 @@ former Refusal.ShortBuffer = Refusal.ShortBuffer
 former Refusal.UnreadField = Refusal.UnreadField
 former Refusal.TooMuchInput = Refusal.TooMuchInput
 former Refusal.UndecodedCut = formerTwo
+former Refusal.WrongType = Refusal.WrongType
+former Refusal.WrongSizes = Refusal.WrongSizes
 
 -- what is lacking was 2
 former-lacking : (n size : ℕ) → former (lacking n size) ≡ formerTwo
@@ -39,5 +41,5 @@ former-lacking n size = by-lacking n size (λ why. former why ≡ formerTwo) (λ
 pub former-whole : {A : Type 0} (s : List ℕ) (refuse : Refusal → A) (give : A) → ifWhole s (λ why. refuse (former why)) give ≡ formerWhole s refuse give
 unfolding ifWhole formerWhole
 former-whole s refuse give =
-    ap (λ (why : Refusal). cond (ltb (length s) 16) (refuse Refusal.FewerThan16) (cond (ltb (length s) (sizeOf s)) (refuse why) give))
+    ap (λ (why : Refusal). cond (ltb (length s) 16) (refuse Refusal.TooFewBytes) (cond (ltb (length s) (sizeOf s)) (refuse why) give))
     (former-lacking (length s) (sizeOf s))

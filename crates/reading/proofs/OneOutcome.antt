@@ -13,7 +13,7 @@ use Rattle.reading.specs.Reading.{ParseOutcome, parsedOutcome}
 parsed-same : {a b : Taken} {r s : ResTableConfig} → a ≡ b → r ≡ s → _≡_ {A = Parsed} (record { answer = a; «record» = r }) (record { answer = b; «record» = s })
 parsed-same p q = cc
 
--- of `parse` and `parse_aged`, whatever their outcome o is defined to be: the answer and the record are fixed
+-- of `parse`, `parse_aged` and `refused_parse`, whatever their outcome o is defined to be: the answer and the record are fixed
 pub one-parse : {o : ParseOutcome} (r s : Parsed) → parsedOutcome r ≡ o → parsedOutcome s ≡ o → r ≡ s
 one-parse r s p q =
     let e = p ∙ sym q in

@@ -34,7 +34,7 @@ front s =
 
 module _ {A : Type 0} (s : List ℕ) (refuse : Refusal → A) (give : A) where
   -- fewer than 16 bytes
-  pub whole-short : length s < 16 → ifWhole s refuse give ≡ refuse Refusal.FewerThan16
+  pub whole-short : length s < 16 → ifWhole s refuse give ≡ refuse Refusal.TooFewBytes
   unfolding ifWhole
   whole-short h = rw (lt-ltb (length s) 16 h)
 
@@ -60,7 +60,7 @@ pub whole-map : {A B : Type 0} (f : A → B) (s : List ℕ) (refuse : Refusal �
     → f (ifWhole s refuse give) ≡ ifWhole s (λ why. f (refuse why)) (f give)
 unfolding ifWhole
 whole-map f s refuse give =
-    rw (cond-map f (ltb (length s) 16) (refuse Refusal.FewerThan16) _, cond-map f (ltb (length s) (sizeOf s)) (refuse (lacking (length s) (sizeOf s))) give)
+    rw (cond-map f (ltb (length s) 16) (refuse Refusal.TooFewBytes) _, cond-map f (ltb (length s) (sizeOf s)) (refuse (lacking (length s) (sizeOf s))) give)
 
 pub age-map : {A B : Type 0} (f : A → B) (a : ℕ) (refuse : Refusal → A) (give : A)
     → f (ifAge a refuse give) ≡ ifAge a (λ why. f (refuse why)) (f give)
@@ -101,7 +101,7 @@ took-whole s refuse give n e = whole-took s refuse give (took-says s n e .1)
 pub refused-whole : {A : Type 0} (s : List ℕ) (refuse : Refusal → A) (give : A) (why : Refusal) → refusal why ≡ takeOf s → ifWhole s refuse give ≡ refuse why
 refused-whole s refuse give why e =
     elim (front s) [
-      | short h ↦ whole-short s refuse give h ∙ ap refuse (told-one Refusal.FewerThan16 why (sym (e ∙ whole-short s _ _ h)))
+      | short h ↦ whole-short s refuse give h ∙ ap refuse (told-one Refusal.TooFewBytes why (sym (e ∙ whole-short s _ _ h)))
       | cut h g ↦ whole-cut s refuse give h g ∙ ap refuse (told-one (lacking (length s) (sizeOf s)) why (sym (e ∙ whole-cut s _ _ h g)))
       | whole h ↦ absurd (let z = told-number (e ∙ whole-took s _ _ h) in omega (arith, number-pos why))
     ]
@@ -114,7 +114,7 @@ pub data Taking (s : List ℕ) : Type 0 where
 pub taking : (s : List ℕ) → Taking s
 taking s =
     elim (front s) [
-      | short h ↦ Taking.refuses Refusal.FewerThan16 (sym (whole-short s _ _ h))
+      | short h ↦ Taking.refuses Refusal.TooFewBytes (sym (whole-short s _ _ h))
       | cut h g ↦ Taking.refuses (lacking (length s) (sizeOf s)) (sym (whole-cut s _ _ h g))
       | whole h ↦ Taking.takes (taken s) (took-is s (taken s) refl h)
     ]

@@ -15,7 +15,7 @@ use Rattle.reading.specs.Reading.{sizeOf, parseOf, parseAged, takeOf}
 
 -- 1: fewer than 16 bytes
 abbrev pub fewerThan16 : List ℕ → Condition
-fewerThan16 s = record { holds = ltb (length s) 16; why = Refusal.FewerThan16 }
+fewerThan16 s = record { holds = ltb (length s) 16; why = Refusal.TooFewBytes }
 
 -- 2 or 8: fewer than size; behind 1 in every row, so 16 or more
 abbrev pub fewerThanSize : List ℕ → Condition
@@ -39,7 +39,7 @@ AgedRefuses a s = Exactly (notAnAge a ∷ fewerThan16 s ∷ fewerThanSize s ∷ 
 
 -- 1 comes exactly when there are fewer than 16 bytes
 abbrev pub TooFew : List ℕ → Type 0
-TooFew s = (takeOf s ≡ refusal Refusal.FewerThan16) ↔ (length s < 16)
+TooFew s = (takeOf s ≡ refusal Refusal.TooFewBytes) ↔ (length s < 16)
 
 -- 2 comes with row f exactly when there are 16 bytes or more and field f is the first that is cut
 abbrev pub CutWithRow : List ℕ → ℕ → Type 0

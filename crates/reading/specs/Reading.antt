@@ -67,7 +67,7 @@ aged a s = recordBy (readsAt a (sizeOf s)) s
 -- lacking, when 16 or more, fewer than size
 unfoldable pub ifWhole : {A : Type 0} → List ℕ → (Refusal → A) → A → A
 ifWhole s refuse give =
-    cond (ltb (length s) 16) (refuse Refusal.FewerThan16)
+    cond (ltb (length s) 16) (refuse Refusal.TooFewBytes)
     (cond (ltb (length s) (sizeOf s)) (refuse (lacking (length s) (sizeOf s))) give)
 
 -- what is given where a is an age; 3 comes when it is not among the twelve

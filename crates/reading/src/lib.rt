@@ -47,7 +47,7 @@ pub fn take(bytes: &[u8]) -> Taken
     ensures { λ r. ⌜ takenTells r ≡ takeOf (now (bytes .entry)) ⌝ }
 {
     if bytes.len() < 16 {
-        return Taken::Refused(Refusal::FewerThan16);
+        return Taken::Refused(Refusal::TooFewBytes);
     }
     let size = fields::word(bytes, 0) as usize;
     if bytes.len() < size {
@@ -76,7 +76,7 @@ pub fn read_to(bytes: &[u8], limit: usize) -> ResTableConfig
 }
 
 // What a refused parse gives.
-fn refuse(why: Refusal) -> Parsed
+pub fn refused_parse(why: Refusal) -> Parsed
     ensures { λ r. ⌜ parsedOutcome r ≡ parseRefused why ⌝ }
 {
     let record = blank();
@@ -98,7 +98,7 @@ fn parse_to(bytes: &[u8], age: usize) -> Parsed
                 record,
             }
         }
-        Taken::Refused(why) => refuse(why),
+        Taken::Refused(why) => refused_parse(why),
     }
 }
 
@@ -116,6 +116,6 @@ pub fn parse_aged(bytes: &[u8], age: Age) -> Parsed
     if age.is_age() {
         parse_to(bytes, age.0 as usize)
     } else {
-        refuse(Refusal::NotAnAge)
+        refused_parse(Refusal::NotAnAge)
     }
 }

@@ -31,7 +31,7 @@ pub examples :
     × (escapedAll (ascii "a b%~" ++ (0x7F ∷ 0x00 ∷ [])) ≡ ascii "a%20b%25~%7F%00")
     -- 3 before 1; 1, 2, and 5 with a buffer of a byte too few; with a byte more than it takes, that byte stays
     × (recordLineOf 33 0 0 [] (7 ∷ []) ≡ refused Refusal.NotAnAge (7 ∷ []))
-    × (recordLineOf 64 0 0 (replicate 15 0) (7 ∷ []) ≡ refused Refusal.FewerThan16 (7 ∷ []))
+    × (recordLineOf 64 0 0 (replicate 15 0) (7 ∷ []) ≡ refused Refusal.TooFewBytes (7 ∷ []))
     × (recordLineOf 64 0 0 (17 ∷ replicate 15 0) (7 ∷ []) ≡ refused Refusal.UndecodedCut (7 ∷ []))
     × (recordLineOf 64 1 16 (replicate 16 0) (replicate 26 7) ≡ refused Refusal.ShortBuffer (replicate 26 7))
     × (recordLineOf 64 1 16 (replicate 16 0) (replicate 28 7) ≡ wrote (ascii "1 16 0 BBBAAAAAAAAAAA %- 0" ++ newline) (replicate 28 7))

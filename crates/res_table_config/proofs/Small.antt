@@ -1,10 +1,12 @@
 -- What the calls tell is small, so nothing of it is lost in an answer. Assumes nothing.
-use Prim.Native.Nat.{ℕ, _≤_, _<_}
+use Prim.Native.Nat.{ℕ, _+_, _-_, _≤_, _<_}
 use mathlib.Core.Path.{refl, ap}
+use mathlib.Core.Bool.{not}
 use mathlib.Core.List.{List}
 use native.Mathlib.Omega.{arith}
-use lib.Dec.{leb, lit<, lit≤}
-use lib.ListN.{length}
+use lib.Dec.{eqb, leb, ltb, lit<, lit≤}
+use lib.ListN.{length, drop, length-take, length-append}
+use lib.Seq.{getD-take, getD-drop}
 use Rattle.answers.specs.declared.Refusal.{Refusal}
 use Rattle.answers.specs.declared.Told.{Told}
 use Rattle.answers.specs.Numbers.{carriedBy}
@@ -15,7 +17,8 @@ use Rattle.buffer.specs.Written.{Outcome, written}
 use Rattle.order.specs.declared.Ordering.{Ordering}
 use Rattle.record.specs.Ages.{isAge}
 use Rattle.order.specs.Order.{orderOf, orderingTells}
-use Rattle.record.specs.Table.{Bytes}
+use Rattle.record.specs.Table.{Bytes, part}
+use Rattle.record.proofs.Bytes.{by-offset}
 use Rattle.reading.specs.Reading.{ifWhole, ifAge, takeOf, plain, aged, taken}
 use Rattle.reading.proofs.CutExactly.{carried-most}
 use Rattle.reading.proofs.Whole.{taking, takes, refuses, took-says, took-whole, refused-whole}
@@ -25,6 +28,7 @@ use Rattle.places.specs.Places.{textOf}
 use Rattle.text.specs.Counted.{replacementsOf}
 use Rattle.text.specs.Text.{plainText, agedText}
 use Rattle.text.proofs.Ranges.{part-below, plain-long, aged-long, aged-most}
+use Rattle.chunk.specs.Chunk.{typeOf, headerSize, chunkSize, headShown, recordPart, wrongSizes, ifHead, ifChunk, chunkTake, headOutcome, chunkText, chunkMarks}
 use Rattle.res_table_config.specs.Face.{orderTold}
 use Rattle.res_table_config.specs.Small.{Small}
 
@@ -51,6 +55,12 @@ module _ {A : Type 0} (P : A → Type 0) (refuse : Refusal → A) (give : A) (ba
             let same = ap (λ (t : Told). t .carried) e in
             rw (refused-whole s refuse give why e) (bad why (omega (arith, carried-most s)))
       ]
+
+  by-head : (s : List ℕ) → P give → P (ifHead s refuse give)
+  unfolding ifHead
+  by-head s good =
+      chosen P (ltb (length s) 20) (bad Refusal.TooFewBytes (lit≤ tt))
+      (chosen P (not (eqb (typeOf s) 0x0201)) (bad Refusal.WrongType (lit≤ tt)) (chosen P (wrongSizes s) (bad Refusal.WrongSizes (lit≤ tt)) good))
 
   by-age : (a : ℕ) → P give → P (ifAge a refuse give)
   unfolding ifAge
@@ -105,3 +115,32 @@ pub order-small : (a b : List ℕ) → Small (orderTold a b)
 order-small a b =
     by-whole Small _ _ refusal-small a
     (λ h. by-whole Small _ _ refusal-small b (λ g. success-small _ (ordering-most (orderOf (plain a) (plain b)))))
+
+-- the same of a chunk
+by-chunk : {A : Type 0} (P : A → Type 0) (refuse : Refusal → A) (give : A) → ((why : Refusal) → carriedBy why ≤ 14 → P (refuse why))
+    → (s : List ℕ) → P give → P (ifChunk s refuse give)
+by-chunk P refuse give bad s good = by-head P refuse _ bad s (by-whole P refuse give bad (recordPart s) (λ whole. good))
+
+part-bytes : (s : List ℕ) (a n : ℕ) → Bytes s → Bytes (part s a n)
+part-bytes s a n bytes =
+    by-offset (part s a n)
+    (λ i h. rw (getD-take n (drop a s) i 0 (omega (arith, length-take n (drop a s))), getD-drop a s i 0) (bytes (a + i)))
+
+-- of a chunk's size, which is a word of 32 bits
+pub chunk-take-small : (s : List ℕ) → Bytes s → Small (chunkTake s)
+chunk-take-small s bytes = by-chunk Small _ _ refusal-small s (success-small (chunkSize s) (omega (arith, part-below 4 4 s bytes)))
+
+-- of its head: ten bytes at the most are shown
+pub head-small : (s old : List ℕ) → Small (headOutcome s old .tells)
+head-small s old =
+    by-chunk Tells _ _ refusal-small s
+    (written-small (headShown s) old
+    (omega (arith, length-append (part s 8 2) (part s 12 8), length-take 2 (drop 8 s), length-take 8 (drop 12 s))))
+
+-- of its record's text and marks
+pub chunk-text-small : (a : ℕ) (s old : List ℕ) → Bytes s → Small (chunkText a s old .tells)
+chunk-text-small a s old bytes =
+    by-age Tells _ _ refusal-small a (by-head Tells _ _ refusal-small s (aged-small a (recordPart s) old (part-bytes s 20 (headerSize s - 20) bytes)))
+
+pub chunk-marks-small : (a : ℕ) (s old : List ℕ) → Small (chunkMarks a s old .tells)
+chunk-marks-small a s old = by-age Tells _ _ refusal-small a (by-head Tells _ _ refusal-small s (marks-small a (recordPart s) old))

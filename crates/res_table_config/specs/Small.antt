@@ -3,9 +3,9 @@ use Prim.Native.Nat.{_≤_, _<_}
 use mathlib.Core.Path.{_≡_}
 use Rattle.answers.specs.declared.Told.{Told}
 
--- a number below 9; an amount below 2^32, which is 0 where the number isn't; and what is carried is at most 14, and 0 where the number is
+-- a number below 11; an amount below 2^32, which is 0 where the number isn't; and what is carried is at most 14, and 0 where the number is
 pub record Small (t : Told) : Type 0 where
-  pub number : t .number < 9
+  pub number : t .number < 11
   pub amount : t .amount < 4294967296
   pub bare : (t .number ≡ 0 → ⊥) → t .amount ≡ 0
   pub carried : t .carried ≤ 14

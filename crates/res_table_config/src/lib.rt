@@ -1,9 +1,14 @@
-// The C face: six calls on numbers and byte slices, for the intake tool. A slice arrives as a pointer and then a length.
+// The C face: ten calls on numbers and byte slices, for the intake tool: six on records, four on type chunks. A slice arrives as a
+// pointer and then a length.
 //
 // Each answers one number: 01's number times 2^32, and the amount of a success or what a refusal carries. So a success is below 2^32,
 // and of the refusals 2 alone has more than its number: the row of the field that is cut. A refusal changes no lent byte. Ages arrive
 // as plain numbers.
 use answers::Told;
+use chunk::chunk_head;
+use chunk::chunk_marks;
+use chunk::chunk_text;
+use chunk::take_chunk;
 use marking::marks;
 use order::cmp;
 use reading::parse;
@@ -13,6 +18,7 @@ use text::aged_text;
 use text::plain_text;
 use text::replacements;
 ghost use mathlib.Core.Path.{_≡_};
+ghost use Rattle.chunk.specs.Chunk.{chunkMarks, chunkTake, chunkText, headOutcome};
 ghost use Rattle.marking.specs.Marks.{marksOutcome};
 ghost use Rattle.reading.specs.Reading.{takeOf};
 ghost use Rattle.record.specs.Table.{Bytes};
@@ -106,4 +112,43 @@ pub extern "C" fn res_table_config_order(a: &[u8], b: &[u8]) -> u64
     let second = parsed_b.record;
     let order = cmp(first, second);
     order.number() as u64
+}
+
+// How far it is from the type chunk at the front of bytes to the next one.
+#[no_mangle]
+pub extern "C" fn res_table_type_take(bytes: &[u8]) -> u64
+    ensures { λ r. ⌜ answerTells r ≡ chunkTake (now (bytes .entry)) ⌝ }
+{
+    are_bytes(bytes);
+    let answer = take_chunk(bytes);
+    packed(answer.told())
+}
+
+// Writes id, flags, entry count and entries start of the type chunk at the front of bytes, as they are stored.
+#[no_mangle]
+pub extern "C" fn res_table_type_head(bytes: &[u8], out: &mut [u8]) -> u64
+    ensures { λ r. ⌜ answerOutcome r (now (out .exit)) ≡ headOutcome (now (bytes .entry)) (now (out .entry)) ⌝ }
+{
+    let answer = chunk_head(bytes, out);
+    packed(answer.told())
+}
+
+// Writes the text of the record of the type chunk at the front of bytes for a reader of an age.
+#[no_mangle]
+pub extern "C" fn res_table_type_aged_text(bytes: &[u8], age: u32, out: &mut [u8]) -> u64
+    ensures { λ r. ⌜ answerOutcome r (now (out .exit)) ≡ chunkText age (now (bytes .entry)) (now (out .entry)) ⌝ }
+{
+    are_bytes(bytes);
+    let counted = chunk_text(bytes, Age(age), out);
+    let answer = counted.answer;
+    packed(answer.told())
+}
+
+// Writes the fourteen marks of the record of the type chunk at the front of bytes, for a reader of an age.
+#[no_mangle]
+pub extern "C" fn res_table_type_marks(bytes: &[u8], age: u32, out: &mut [u8]) -> u64
+    ensures { λ r. ⌜ answerOutcome r (now (out .exit)) ≡ chunkMarks age (now (bytes .entry)) (now (out .entry)) ⌝ }
+{
+    let answer = chunk_marks(bytes, Age(age), out);
+    packed(answer.told())
 }

@@ -1,6 +1,6 @@
 -- Demand 3 holds: its proof, from what the calls return. Assumes nothing.
 use Prim.Native.Nat.{ℕ, _≤_, _<_}
-use mathlib.Core.Path.{_≡_, sym, ap, _∙_}
+use mathlib.Core.Path.{_≡_, sym}
 use mathlib.Core.Bool.{true}
 use mathlib.Core.List.{List}
 use native.Mathlib.Omega.{arith}
@@ -8,14 +8,14 @@ use lib.ListN.{length, getD, drop}
 use Rattle.record.specs.Ages.{isAge}
 use Rattle.reading.specs.Reading.{taken}
 use Rattle.reading.proofs.TwoAges.{aged-alike}
-use Rattle.runs.specs.Fronts.{stopAt, stopTells}
-use Rattle.runs.specs.Runs.{frontAt, findsOf}
+use Rattle.runs.specs.Runs.{findsOf}
 use Rattle.runs.specs.Demand3.{OfRecord, Demand3}
-use Rattle.runs.proofs.Records.{each-whole, finds-are, stands-are, last-none, last-tells}
+use Rattle.runs.proofs.Along.{same-offsets, same-stop, stops-there, same-reason}
+use Rattle.runs.proofs.Records.{record-steps, each-whole, finds-are}
 use Rattle.runs.proofs.Showing.{parse-plain, step-gives, same-marks, shows-zero, zero-shows, shows-plain, newer-shows, byte-refuses}
 
 -- of an offset where a whole record stands
-of-record : (s : List ℕ) (q older newer : ℕ) (x y : List ℕ) → older ≤ newer → isAge older ≡ true → isAge newer ≡ true → length x ≡ length y
+pub of-record : (s : List ℕ) (q older newer : ℕ) (x y : List ℕ) → older ≤ newer → isAge older ≡ true → isAge newer ≡ true → length x ≡ length y
     → taken (drop q s) ≤ length (drop q s) → OfRecord s q older newer x y
 of-record s q a b x y rising older newer even whole =
     let t = drop q s in
@@ -34,14 +34,13 @@ of-record s q a b x y rising older newer even whole =
 -- demand 3
 pub demand-3 : Demand3
 demand-3 s p a b x y rising older newer even =
+    let old = record-steps a s in
+    let new = record-steps b s in
     record {
-      offsets = finds-are a s (sym older) p ∙ sym (finds-are b s (sym newer) p);
-      stop = stands-are a s (sym older) p ∙ sym (stands-are b s (sym newer) p);
-      stopped = (
-        last-tells a s (sym older) p ∙ ap (λ (q : ℕ). stopTells (stopAt (frontAt s) q)) (sym (stands-are a s (sym older) p)),
-        last-none a s (sym older) p,
-      );
-      reason = last-tells a s (sym older) p ∙ sym (last-tells b s (sym newer) p);
+      offsets = same-offsets old new older newer p;
+      stop = same-stop old new older newer p;
+      stopped = stops-there old new older newer p;
+      reason = same-reason old new older newer p;
       each = λ i h. of-record s (getD (findsOf a s p) i 0) a b x y rising older newer even (whole i h);
     } where
       whole : (i : ℕ) → i < length (findsOf a s p) → taken (drop (getD (findsOf a s p) i 0) s) ≤ length (drop (getD (findsOf a s p) i 0) s)

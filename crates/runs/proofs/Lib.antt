@@ -1,4 +1,5 @@
 pub mod Fronts
+pub mod Along
 pub mod Records
 pub mod Exactly
 pub mod Showing

@@ -3,7 +3,8 @@ use Prim.Native.Nat.{ℕ, zero, suc, _+_}
 use mathlib.Core.List.{List, [], _∷_}
 use mathlib.Core.Bool.{Bool, cond}
 use lib.Dec.{eqb}
-use lib.ListN.{length}
+use lib.ListN.{length, drop}
+use Rattle.answers.specs.declared.Taken.{Taken}
 use Rattle.answers.specs.declared.Told.{Told}
 use Rattle.answers.specs.Tells.{success, refusal}
 use Rattle.runs.specs.declared.Stop.{Stop}
@@ -15,6 +16,16 @@ use Rattle.runs.specs.declared.RunEnd.{RunEnd}
 abbrev pub byFront : {A : Type 0} → (Stop → A) → (ℕ → A) → Front → A
 byFront stops takes (Front.Takes n) = takes n
 byFront stops takes (Front.Stops stop) = stops stop
+
+-- what an answer of a call that takes bytes says of what stands at their front: so many bytes are taken, or a run stops there
+abbrev pub frontOf : Taken → Front
+frontOf (Taken.Took n) = Front.Takes n
+frontOf (Taken.Refused why) = Front.Stops (Stop.Refused why)
+
+-- what stands at offset p of s, by what stands at the front of some bytes: at the exact end nothing; else what stands at the front of
+-- the part that starts there
+abbrev pub frontIn : (List ℕ → Front) → List ℕ → ℕ → Front
+frontIn here s p = cond (eqb p (length s)) (Front.Stops Stop.Ended) (here (drop p s))
 
 -- the offsets, at most k of them, of the run that begins at p, of what stands at each offset: the next one is as far behind as it takes bytes
 unfoldable pub offsetsIn : ℕ → (ℕ → Front) → ℕ → List ℕ

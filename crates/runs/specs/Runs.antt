@@ -1,8 +1,6 @@
 -- 01, "Ages, marks, runs": the records of a run, where it stops and why, and a step of its reader. Assumes nothing.
 use Prim.Native.Nat.{ℕ, _/_}
 use mathlib.Core.List.{List}
-use mathlib.Core.Bool.{cond}
-use lib.Dec.{eqb}
 use lib.ListN.{length, drop}
 use Rattle.answers.specs.declared.Told.{Told}
 use Rattle.answers.specs.Tells.{refusal}
@@ -13,14 +11,15 @@ use Rattle.runs.specs.declared.Stop.{Stop}
 use Rattle.runs.specs.declared.Front.{Front}
 use Rattle.runs.specs.declared.Stepped.{Stepped}
 use Rattle.runs.specs.declared.RunEnd.{RunEnd}
-use Rattle.runs.specs.Fronts.{StepOutcome, offsetsIn, stopIn, stopAt, endIn, stepTells, stands, stepBy, findsIn, standsIn}
+use Rattle.runs.specs.Fronts.{StepOutcome, frontIn, offsetsIn, stopIn, endIn, stepTells, stands, stepBy, findsIn, standsIn}
 
--- what stands at offset p of s: at the exact end nothing; else a whole record, which takes T bytes of the part that starts there, or
--- nothing, for the parse refusal
+-- what stands at the front of t: a whole record, which takes T bytes, or nothing, for the parse refusal
+abbrev pub recordFront : List ℕ → Front
+recordFront t = ifWhole t (λ why. Front.Stops (Stop.Refused why)) (Front.Takes (taken t))
+
+-- what stands at offset p of s: at the exact end nothing, else a record
 unfoldable pub frontAt : List ℕ → ℕ → Front
-frontAt s p =
-    cond (eqb p (length s)) (Front.Stops Stop.Ended)
-    (ifWhole (drop p s) (λ why. Front.Stops (Stop.Refused why)) (Front.Takes (taken (drop p s))))
+frontAt s p = frontIn recordFront s p
 
 -- a run of n bytes gives at most n / 16 records
 abbrev pub most : List ℕ → ℕ
@@ -46,9 +45,13 @@ stepOutcome stepped = record { tells = stepTells (stepped .answer); next = stepp
 abbrev pub stepStays : ℕ → Told → StepOutcome ResTableConfig
 stepStays p told = stands blankRecord p told
 
--- a step at p of s by a reader of age a: 3; else the record that stands there, as the age reads it, or the stop of the run
+-- a step at p by a reader of age a: 3; else the record that is read by what stands there, or the stop of the run
+abbrev pub stepIn : (ℕ → Front) → (ℕ → ResTableConfig) → ℕ → ℕ → StepOutcome ResTableConfig
+stepIn front read a p = ifAge a (λ why. stepStays p (refusal why)) (stepBy front blankRecord read p)
+
+-- a step at p of s: the record that stands there, as the age reads it
 unfoldable pub stepOf : ℕ → List ℕ → ℕ → StepOutcome ResTableConfig
-stepOf a s p = ifAge a (λ why. stepStays p (refusal why)) (stepBy (frontAt s) blankRecord (λ q. aged a (drop q s)) p)
+stepOf a s p = stepIn (frontAt s) (λ q. aged a (drop q s)) a p
 
 -- the offsets at which a reader of age a finds the records of the run of s that begins at p
 abbrev pub findsOf : ℕ → List ℕ → ℕ → List ℕ

@@ -18,7 +18,7 @@ ghost use Rattle.buffer.specs.Counted.{countedOutcome};
 ghost use Rattle.buffer.specs.Written.{outcome};
 ghost use Rattle.marking.specs.Marks.{marksOutcome};
 ghost use Rattle.text.specs.Counted.{countedAged};
-ghost use Rattle.runs.specs.Fronts.{stepTells, stopTells};
+ghost use Rattle.runs.specs.Fronts.{frontOf, stepTells, stopTells};
 ghost use Rattle.runs.specs.Runs.{frontAt, runOf, stepOf, stepOutcome, stepStays};
 
 // Why a run stops.
@@ -83,6 +83,18 @@ impl Step {
     }
 }
 
+impl Front {
+    // What the answer of a call that takes bytes says of what stands at their front.
+    pub fn of(answer: Taken) -> Self
+        ensures { λ r. ⌜ r ≡ frontOf answer ⌝ }
+    {
+        match answer {
+            Taken::Took(n) => Self::Takes(n),
+            Taken::Refused(why) => Self::Stops(Stop::Refused(why)),
+        }
+    }
+}
+
 // What stands at an offset of bytes: a whole record, or the stop of a run.
 pub fn front_at(bytes: &[u8], offset: usize) -> Front
     ensures { λ r. ⌜ r ≡ frontAt (now (bytes .entry)) offset ⌝ }
@@ -91,14 +103,11 @@ pub fn front_at(bytes: &[u8], offset: usize) -> Front
         return Front::Stops(Stop::Ended);
     }
     let from = lesser(offset, bytes.len());
-    match take(&bytes[from..]) {
-        Taken::Took(n) => Front::Takes(n),
-        Taken::Refused(why) => Front::Stops(Stop::Refused(why)),
-    }
+    Front::of(take(&bytes[from..]))
 }
 
-// What a step gives that finds no record at an offset.
-fn stays(offset: usize, stop: Stop) -> Stepped
+// What a step gives that finds nothing at an offset.
+pub fn stays(offset: usize, stop: Stop) -> Stepped
     ensures { λ r. ⌜ stepOutcome r ≡ stepStays offset (stopTells stop) ⌝ }
 {
     let record = blank();

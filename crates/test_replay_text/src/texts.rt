@@ -42,7 +42,7 @@ fn written(tag: u8, payload: &[u8], out: &mut [u8]) -> Counted {
         49 => of_record(false, payload, out),
         50 | 51 => of_pair(tag, payload, out),
         52 => subtag::write_subtag(payload, out),
-        _ => refused(Refusal::FewerThan16),
+        _ => refused(Refusal::TooFewBytes),
     }
 }
 
@@ -77,7 +77,7 @@ fn of_taken(whole: bool, record: ResTableConfig, out: &mut [u8]) -> Counted {
 // Writes the words of the language or the region that two bytes hold.
 fn of_pair(tag: u8, pair: &[u8], out: &mut [u8]) -> Counted {
     if pair.len() < 2 {
-        return refused(Refusal::FewerThan16);
+        return refused(Refusal::TooFewBytes);
     }
     match tag {
         50 => language::write_language(pair[0], pair[1], out),

@@ -1,7 +1,8 @@
 //! What each call is to answer: by 000 as far as it has an answer, and by 01's rules.
 use super::{Call, Question};
+use crate::chunk::{chunk, chunk_at};
 use crate::cut::{self, Refused, ENDS};
-use crate::listed::{held_back, marks, put_age_line, put_record_line, put_stop_line, stop, taken, MOST};
+use crate::listed::{held_back, marks, put_age_line, put_record_line, put_stop_line, taken, MOST};
 use crate::records::{fields, written};
 use crate::replaced::{held_in_record, in_record};
 use crate::subject::ResTableConfig;
@@ -76,7 +77,50 @@ pub fn wanted(call: Call, number: u32, index: u64, offset: u64, bytes: &[u8]) ->
         Call::Line | Call::Next => listed(bytes).and(age(number)).map(|age| line(bytes, age, index, offset).0),
         Call::RecordLine => age(number).and_then(|age| record_line(bytes, age, index, offset)),
         Call::Write => rewritten(bytes, number),
-        Call::Take | Call::Replaced | Call::Order | Call::Walk | Call::Row | Call::Records => Ok(vec![]),
+        Call::TypeHead => Ok(chunk(bytes)?.shown.to_vec()),
+        Call::TypeText => in_chunk(Call::AgedText, number, bytes),
+        Call::TypeMarks => in_chunk(Call::Marks, number, bytes),
+        Call::ChunkStep | Call::ChunkRead => Ok(stepped(bytes, offset, number).record),
+        _ => Ok(vec![]),
+    }
+}
+
+/// Whether a call writes to lent bytes.
+pub fn writes(call: Call) -> bool {
+    match call {
+        Call::Take | Call::Replaced | Call::Order | Call::Walk | Call::Row | Call::Records => false,
+        Call::TypeTake | Call::ChunkStop | Call::ChunkEnd | Call::Chunks => false,
+        Call::ChunkNext | Call::ChunkReadNext => false,
+        _ => true,
+    }
+}
+
+/// What a call on a record is to write of the one in a chunk: an age that is none comes first, then what is wrong with the chunk.
+fn in_chunk(call: Call, number: u32, bytes: &[u8]) -> Wanted {
+    age(number)?;
+    wanted(call, number, 0, 0, chunk(bytes)?.config)
+}
+
+/// A step at a chunk: 1 for one that stands there whole, 0 at the exact end, or why there is none; the offset where the next step goes on; and
+/// what 01's writer makes of the record that is given.
+struct Stepped {
+    tells: Result<u64, Refused>,
+    next: u64,
+    record: Vec<u8>,
+}
+
+/// The step at an offset for a reader of an age. An age is the end of a field, so that what the reader doesn't know are the bytes from there on.
+fn stepped(bytes: &[u8], offset: u64, number: u32) -> Stepped {
+    let stays = |tells| Stepped { tells, next: offset, record: vec![0; 16] };
+    let found = age(number).and_then(|age| Ok((age, chunk_at(bytes, offset as usize)?)));
+    match found {
+        Err(why) => stays(Err(why)),
+        Ok((_, None)) => stays(Ok(0)),
+        Ok((age, Some(chunk))) => {
+            let mut record = written(&whole(chunk.config).expect("the record of a whole chunk is whole").0);
+            record.iter_mut().skip(age).for_each(|byte| *byte = 0);
+            Stepped { tells: Ok(1), next: offset + chunk.size as u64, record }
+        }
     }
 }
 
@@ -156,7 +200,18 @@ pub fn outcome(question: &Question) -> Outcome {
             let order = whole(first).and_then(|(a, _)| Ok(a.cmp(&whole(&question.second)?.0)));
             told(order.map(|order| (order as i64 + 1) as u64))
         }
-        Call::Walk | Call::Row | Call::Records => walked(*call, first, *offset as usize),
+        Call::Walk | Call::Row | Call::Records => walked(question, record_at),
+        Call::TypeTake => told(chunk(first).map(|chunk| chunk.size as u64)),
+        Call::ChunkStop | Call::ChunkEnd | Call::Chunks => {
+            walked(question, |bytes, offset| Ok(chunk_at(bytes, offset)?.map(|chunk| chunk.size)))
+        }
+        Call::ChunkStep | Call::ChunkRead => {
+            Outcome { wrote: room_for(question).wrote, ..told(stepped(first, *offset, question.number).tells) }
+        }
+        Call::ChunkNext | Call::ChunkReadNext => {
+            let stepped = stepped(first, *offset, question.number);
+            Outcome { answer: stepped.next, ..told(stepped.tells) }
+        }
         Call::Next => {
             let Outcome { why, wrote, .. } = room_for(question);
             let behind = || line(first, question.number as usize, *index, *offset).1;
@@ -173,6 +228,7 @@ pub fn replacements(question: &Question, outcome: &Outcome) -> Option<usize> {
     }
     match question.call {
         Call::Text | Call::AgedText => whole(&question.first).ok().map(|(record, _)| in_record(&record)),
+        Call::TypeText => whole(chunk(&question.first).ok()?.config).ok().map(|(record, _)| in_record(&record)),
         Call::Replaced => Some(outcome.answer as usize),
         // a record's line alone has a sixth item
         Call::Line | Call::Next | Call::RecordLine => {
@@ -191,17 +247,30 @@ fn room_for(question: &Question) -> Outcome {
     }
 }
 
-/// Where a run stops under its number, the row that the stop carries, or how many records the run has.
-fn walked(call: Call, bytes: &[u8], offset: usize) -> Outcome {
-    let (mut end, mut records) = (offset, 0);
-    while let Ok((_, amount)) = whole(bytes.get(end..).unwrap_or(&[])) {
-        end += amount;
-        records += 1;
+/// How many bytes the record at an offset takes; nothing at the exact end, else why none stands there whole.
+fn record_at(bytes: &[u8], offset: usize) -> Result<Option<usize>, Refused> {
+    match bytes.get(offset..) {
+        Some([]) => Ok(None),
+        rest => whole(rest.unwrap_or(&[])).map(|(_, amount)| Some(amount)),
     }
-    let why = stop(bytes, end);
-    let answer = match call {
+}
+
+/// Where a run stops, under its number or by itself, the row that the stop carries, under its number or by itself, or how many stand in the run,
+/// by what stands at an offset.
+fn walked(question: &Question, at: impl Fn(&[u8], usize) -> Result<Option<usize>, Refused>) -> Outcome {
+    let (mut end, mut count) = (question.offset as usize, 0);
+    let why = loop {
+        match at(&question.first, end) {
+            Ok(Some(amount)) => (end, count) = (end + amount, count + 1),
+            Ok(None) => break Refused::with(0),
+            Err(why) => break why,
+        }
+    };
+    let answer = match question.call {
         Call::Row => why.carried,
-        Call::Records => records,
+        Call::ChunkStop => packed(why.number, why.carried),
+        Call::ChunkEnd => end as u64,
+        Call::Records | Call::Chunks => count,
         _ => packed(why.number, end as u64),
     };
     Outcome { why, answer, wrote: vec![] }

@@ -1,5 +1,6 @@
 //! Questions that are made: a sort of input, one of its calls, and a cursor, an age, a size and a room that go with it.
-use super::expected::{wanted, Wanted};
+use super::chunks::of_chunks;
+use super::expected::{wanted, writes, Wanted};
 use super::{Call, Question, Source};
 use crate::listed::{taken, MOST};
 use crate::payloads::{
@@ -53,7 +54,7 @@ const GO_TO: [Call; 21] = [
 const LARGE: [usize; 8] = [344, 345, 1069, 1103, 1104, 1105, 2048, 4096];
 
 /// Ages that are none.
-const NO_AGES: [u32; 18] =
+pub const NO_AGES: [u32; 18] =
     [0, 1, 4, 8, 12, 15, 17, 33, 42, 44, 56, 63, 65, 128, 256 + 64, 65536 + 16, 1 << 31, u32::MAX];
 
 /// What inputs are taken for.
@@ -207,6 +208,8 @@ pub fn question(random: &mut Random, sort: usize, call: Call, first: Vec<u8>, se
     };
     let (index, offset) = match call {
         Call::Line | Call::Next | Call::Walk | Call::Row | Call::Records | Call::RecordLine => cursor(random, &first),
+        // at the front, but for one in four
+        call if of_chunks(call) && random.below(4) == 0 => cursor(random, &first),
         _ => (0, 0),
     };
     lent(random, Question { index, offset, second, ..bare(sort, call, number, first) })
@@ -221,10 +224,7 @@ pub fn bare(sort: usize, call: Call, number: u32, first: Vec<u8>) -> Question {
 /// A question with what it is to write, and with bytes lent where it writes.
 pub fn lent(random: &mut Random, question: Question) -> Question {
     let wanted = wanted(question.call, question.number, question.index, question.offset, &question.first);
-    let (room, lent) = match question.call {
-        Call::Take | Call::Replaced | Call::Order | Call::Walk | Call::Row | Call::Records => (Room::NotLent, 0),
-        _ => room(random, &wanted),
-    };
+    let (room, lent) = if writes(question.call) { room(random, &wanted) } else { (Room::NotLent, 0) };
     Question { wanted, room, lent, ..question }
 }
 

@@ -1,4 +1,5 @@
-//! Questions on mutations of records as files have them: each that is mutated goes to every call.
+//! Questions on mutations of records as files have them: each that is mutated goes to every call, to those on chunks in a chunk around it.
+use super::chunks::around;
 use super::inputs::question;
 use super::{Call, Question, Source, CALLS};
 use crate::listed::MOST;
@@ -128,6 +129,17 @@ impl Mutated {
         }
         self.bytes = bytes;
     }
+
+    /// A chunk around the last that was mutated, itself mutated one in four times.
+    fn in_chunk(&mut self) -> Vec<u8> {
+        let (longer, behind) = (self.random.below(3), self.random.below(3));
+        let mut bytes = around(&mut self.random, &self.bytes, longer, behind);
+        if self.random.below(4) == 0 {
+            let mutation = one(&mut self.random, &[flip, set, truncate, insert]);
+            mutation(&mut self.random, &mut bytes, &self.kept);
+        }
+        bytes
+    }
 }
 
 impl Source for Mutated {
@@ -147,6 +159,7 @@ impl Source for Mutated {
             Call::Order => self.kept[self.random.below(KEPT)].clone(),
             _ => vec![],
         };
-        Some(question(&mut self.random, self.sort, call, self.bytes.clone(), second))
+        let first = if (call as usize) < Call::TypeTake as usize { self.bytes.clone() } else { self.in_chunk() };
+        Some(question(&mut self.random, self.sort, call, first, second))
     }
 }

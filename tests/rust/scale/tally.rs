@@ -4,9 +4,9 @@ use super::{inputs::ROOMS, Question, CALLS};
 use crate::cut::FIELDS;
 
 /// What the numbers of 01 and 02 mean.
-const NUMBERS: [&str; 9] = [
+const NUMBERS: [&str; 11] = [
     "0 success",
-    "1 fewer than 16",
+    "1 too few bytes",
     "2 field cut",
     "3 not an age",
     "4 held back",
@@ -14,6 +14,8 @@ const NUMBERS: [&str; 9] = [
     "6 unread field",
     "7 too much input",
     "8 undecoded cut",
+    "9 wrong type",
+    "10 wrong sizes",
 ];
 
 /// The first row that a cut field can have: the four before it are in the sixteen bytes without which there is no record.
@@ -33,13 +35,13 @@ impl Table {
         Table { title, rows: names.iter().map(|name| (*name, [0; CALLS.len()])).collect() }
     }
 
-    /// Prints the table, with the sum of each row.
-    fn print(&self) {
-        let names: String = CALLS.iter().map(|(_, name)| format!("{name:>10}")).collect();
-        println!("{:27}{names}{:>10}", self.title, "all");
+    /// Prints the columns of the table whose calls were made, with the sum of each row.
+    fn print(&self, made: &[usize]) {
+        let names: String = made.iter().map(|call| format!("{:>11}", CALLS[*call].1)).collect();
+        println!("{:27}{names}{:>11}", self.title, "all");
         for (name, counts) in &self.rows {
-            let counts_of: String = counts.iter().map(|count| format!("{count:>10}")).collect();
-            println!("{name:27}{counts_of}{:>10}", counts.iter().sum::<u64>());
+            let counts_of: String = made.iter().map(|call| format!("{:>11}", counts[*call])).collect();
+            println!("{name:27}{counts_of}{:>11}", counts.iter().sum::<u64>());
         }
     }
 }
@@ -83,14 +85,20 @@ impl Tally {
         }
     }
 
+    /// The calls that were made.
+    fn made(&self) -> Vec<usize> {
+        (0..CALLS.len()).filter(|call| self.numbers.rows.iter().any(|(_, counts)| counts[*call] > 0)).collect()
+    }
+
     /// Prints what was counted. It fails where another number of questions was asked, where one of some numbers or one of the fields has
     /// none, and where no text has replacements.
     pub fn ended(&self, asked: u64, numbers: &[usize]) -> Result<(), String> {
         if asked != self.count {
             return Err(format!("{asked} questions were asked and {} answered", self.count));
         }
+        let made = self.made();
         for table in [&self.sorts, &self.rooms, &self.numbers, &self.cut, &self.replacements] {
-            table.print();
+            table.print(&made);
         }
         let rows = numbers.iter().map(|number| &self.numbers.rows[*number]).chain(&self.cut.rows);
         if let Some((missing, _)) = rows.into_iter().find(|(_, counts)| counts.iter().sum::<u64>() == 0) {

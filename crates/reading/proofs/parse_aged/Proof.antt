@@ -10,7 +10,7 @@ returns c =
     c .parse-to .ensures ∙ sym (age-known _ _ _ (sym (c .before .before .if1 .taken) ∙ c .before .before .before .is-age .ensures))
 
 returns-2 : tie.Need-returns-2
-returns-2 c = c .refuse .ensures ∙ sym (age-unknown _ _ _ (sym (c .before .if1 .left) ∙ c .before .before .is-age .ensures))
+returns-2 c = c .refused-parse .ensures ∙ sym (age-unknown _ _ _ (sym (c .before .if1 .left) ∙ c .before .before .is-age .ensures))
 
 pub parse-aged-spec : {M : Type 1} → statement M
 parse-aged-spec =

@@ -38,7 +38,7 @@ returns-2 c =
     let start = taking .before .before in
     let s = now (start .args .bytes) in
     let w = why .why .given in
-    c .refuse .ensures ∙ sym (refused-whole s _ _ (w .0 .0) (sym (ap takenTells (w .1)) ∙ taking .take .ensures))
+    c .refused-parse .ensures ∙ sym (refused-whole s _ _ (w .0 .0) (sym (ap takenTells (w .1)) ∙ taking .take .ensures))
 
 pub parse-to-spec : {M : Type 1} → statement M
 parse-to-spec =

@@ -1,0 +1,3 @@
+pub mod Chunk
+pub mod Demand1
+pub mod Behind

@@ -1,0 +1,3 @@
+pub mod TheReader
+pub mod OneOutcome
+pub mod Stops
