@@ -1,3 +1,4 @@
+pub mod Backwards
 pub mod Counting
 pub mod Digits
 pub mod Exactly

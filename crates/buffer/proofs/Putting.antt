@@ -31,7 +31,7 @@ pub put-same : {o : List ℕ} {at : ℕ} {w : List ℕ} {n : List ℕ} {r : ℕ}
 put-same {o} {at} {w} p = ap length (p .holds) ∙ put-length o at w
 
 -- both of two words in a row
-reach-append : (n at : ℕ) (u v : List ℕ) → reach n at (u ++ v) ≡ reach n (reach n at u) v
+pub reach-append : (n at : ℕ) (u v : List ℕ) → reach n at (u ++ v) ≡ reach n (reach n at u) v
 unfolding reach
 reach-append n at [] v = refl
 reach-append n at (b ∷ u) v =
@@ -85,6 +85,31 @@ pub reach-fits : (n at : ℕ) (w : List ℕ) → at + length w ≤ n → reach n
 unfolding reach
 reach-fits n at [] h = omega arith
 reach-fits n at (b ∷ w) h = let g : at < n = omega arith in rw lt-ltb (reach-fits n (suc at) w (omega arith) ∙ omega arith)
+
+-- where they don't, the end of the buffer
+pub reach-full : (n at : ℕ) (w : List ℕ) → at ≤ n → n ≤ at + length w → reach n at w ≡ n
+unfolding reach
+reach-full n at [] h k = omega arith
+reach-full n at (b ∷ w) h k =
+    elim (decLt at n) [
+      | yes l ↦ rw lt-ltb (reach-full n (suc at) w (omega arith) (omega arith))
+      | no l ↦ let g : n ≤ at = omega arith in rw le-ltb (omega arith)
+    ]
+
+-- with room for n bytes and one more, whether w has more than n
+pub reach-within : (n : ℕ) (w : List ℕ) → reach (n + 1) 0 w ≤ n → length w ≤ n
+reach-within n w h =
+    elim (decLt n (length w)) [
+      | yes l ↦ absurd (omega (arith, reach-full (n + 1) 0 w (omega arith) (omega arith)))
+      | no l ↦ omega arith
+    ]
+
+pub reach-past : (n : ℕ) (w : List ℕ) → n < reach (n + 1) 0 w → n < length w
+reach-past n w h =
+    elim (decLt n (length w)) [
+      | yes l ↦ l
+      | no l ↦ absurd (omega (arith, reach-fits (n + 1) 0 w (omega arith)))
+    ]
 
 put-sets : (o : List ℕ) (at : ℕ) (w : List ℕ) → putAt o at w ≡ sets o at w
 unfolding putAt

@@ -2,13 +2,13 @@
 use Prim.Native.Nat.{ℕ, _≤_, _<_}
 use mathlib.Core.Path.{_≡_}
 use mathlib.Core.List.{List}
-use lib.ListN.{length, take}
+use lib.ListN.{length}
 use borrow.Author.Tests.{le-leb, lt-leb}
 use Rattle.answers.specs.declared.Refusal.{Refusal}
 use Rattle.answers.specs.declared.Written.{Written}
 use Rattle.buffer.specs.Put.{Put}
 use Rattle.buffer.specs.Written.{outcome, written, wrote, refused}
-use Rattle.buffer.proofs.Putting.{front-is, front-take}
+use Rattle.buffer.proofs.Putting.{front-is}
 
 -- what fits is written, and what doesn't is refused
 pub written-fits : (w old : List ℕ) → length w ≤ length old → written w old ≡ wrote w old
@@ -23,8 +23,3 @@ written-short w old h = rw lt-leb
 pub put-written : {old : List ℕ} {w : List ℕ} {new : List ℕ} {r : ℕ}
     → length w ≤ length old → Put old 0 w new r → outcome (Written.Wrote (length w)) new ≡ written w old
 put-written {old} {w} h p = rw (written-fits w old h, front-is p h)
-
--- a text that was put together in a buffer of its own is written as itself
-pub copied : {own : List ℕ} {w : List ℕ} {held : List ℕ} {n : ℕ} (old : List ℕ)
-    → length w ≤ length own → Put own 0 w held n → written (take n held) old ≡ written w old
-copied old h p = rw (front-take p h)

@@ -7,6 +7,7 @@ use answers::Refusal;
 use answers::Written;
 ghost use mathlib.Core.Path.{_≡_};
 ghost use mathlib.Core.List.{_∷_, [], _++_};
+ghost use lib.ListN.{length};
 ghost use Rattle.buffer.specs.Decimal.{decimal};
 ghost use Rattle.buffer.specs.Put.{Put};
 ghost use Rattle.buffer.specs.Written.{outcome, written};
@@ -36,16 +37,36 @@ pub fn put(bytes: &[u8], at: usize, out: &mut [u8]) -> usize
     o
 }
 
-// Puts n in decimal.
+// How many digits n has in decimal.
+pub fn decimal_length(n: u64) -> usize
+    ensures { λ r. ⌜ r ≡ length (decimal n) ⌝ }
+{
+    let mut left = n;
+    let mut digits = 1;
+    while 10 <= left {
+        left /= 10;
+        digits += 1;
+    }
+    digits
+}
+
+// Puts n in decimal, the last digit first: each stands at its final place.
 pub fn put_decimal(n: u64, at: usize, out: &mut [u8]) -> usize
     ensures { λ r. ⌜ Put (now (out .entry)) at (decimal n) (now (out .exit)) r ⌝ }
 {
-    if n < 10 {
-        put_byte(48 + n as u8, at, out)
-    } else {
-        let a = put_decimal(n / 10, at, out);
-        put_byte(48 + (n % 10) as u8, a, out)
+    if out.len() <= at {
+        return at;
     }
+    let end = at + decimal_length(n);
+    let mut left = n;
+    let mut o = end;
+    while 10 <= left {
+        o -= 1;
+        put_byte(48 + (left % 10) as u8, o, out);
+        left /= 10;
+    }
+    put_byte(48 + left as u8, at, out);
+    if end < out.len() { end } else { out.len() }
 }
 
 // Puts fixed words and then n in decimal.

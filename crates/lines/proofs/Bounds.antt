@@ -21,10 +21,14 @@ use Rattle.record_line.specs.RecordLine.{recordLine}
 use Rattle.record_line.proofs.Bounds.{record-long}
 use Rattle.lines.specs.Lines.{ageLine, reasonWords, stopLine}
 
--- the line with an age of d + 1 digits at the most
-pub age-long : (d a : ℕ) → length (decimal a) ≤ suc d → length (ageLine a) ≤ d + 6
+-- the line with an age, which has five bytes beside the age's digits
+pub age-length : (a : ℕ) → length (ageLine a) ≡ 5 + length (decimal a)
 unfolding ageLine
-age-long d a h = simp length-append (omega arith)
+age-length a = simp length-append (omega arith)
+
+-- so with d + 1 digits at the most
+pub age-long : (d a : ℕ) → length (decimal a) ≤ suc d → length (ageLine a) ≤ d + 6
+age-long d a h = omega (arith, age-length a)
 
 -- the number that a stop tells has two digits at the most
 stop-digits : (stop : Stop) → length (decimal (stopTells stop .number)) ≤ 2
@@ -41,11 +45,15 @@ reason-long e stop h = by (eqb (stopTells stop .number) 2) refl where
       rw t (simp length-append (omega arith))
   by false t = rw t (simp length-append (omega (arith, stop-digits stop)))
 
--- the last line, with an offset of d + 1 digits and a row of e + 1 at the most
+-- the last line, which has seven bytes beside the offset's digits and the reason
+pub stop-length : (p : ℕ) (stop : Stop) → length (stopLine p stop) ≡ 7 + length (decimal p) + length (reasonWords (stopTells stop))
+unfolding stopLine
+stop-length p stop = simp length-append (omega arith)
+
+-- so with an offset of d + 1 digits and a row of e + 1 at the most
 pub stop-long : (d e p : ℕ) (stop : Stop) → length (decimal p) ≤ suc d → length (decimal (stopTells stop .carried)) ≤ suc e
     → length (stopLine p stop) ≤ d + e + 11
-unfolding stopLine
-stop-long d e p stop h k = let r = reason-long e stop k in simp length-append (omega arith)
+stop-long d e p stop h k = omega (arith, stop-length p stop, reason-long e stop k)
 
 -- the line of a record that stands whole in 65,536 bytes, with an index that is at most its offset
 pub whole-long : (a i p t : ℕ) (s : List ℕ) → Bytes s → success t ≡ takeOf s → i ≤ p → p + length s ≤ 65536 → length (recordLine a i p s) ≤ 1069

@@ -2,11 +2,11 @@
 use answers::Refusal;
 use answers::Told;
 use answers::Written;
+use buffer::decimal_length;
 use buffer::put_between;
 use buffer::put_byte;
 use buffer::put_decimal;
 use buffer::put_label;
-use buffer::write;
 use record::Age;
 use record_line::write_line;
 use runs::Front;
@@ -25,12 +25,6 @@ ghost use Rattle.lines.specs.Lines.{after, ageLine, lineAt, lineOf, line
 
 // A listing takes no more bytes.
 pub const MOST_BYTES: usize = 65536;
-
-// No line with an age is longer.
-const LONGEST_AGE_LINE: usize = 15;
-
-// No last line is longer.
-const LONGEST_STOP_LINE: usize = 49;
 
 // Where a listing goes on.
 pub enum Cursor {
@@ -59,9 +53,10 @@ pub fn first() -> Cursor
 pub fn age_line(age: Age, out: &mut [u8]) -> Written
     ensures { λ r. ⌜ outcome r (now (out .exit)) ≡ written (ageLine (age .0)) (now (out .entry)) ⌝ }
 {
-    let mut own = [0u8; LONGEST_AGE_LINE];
-    let n = put_between(b"age ", age.0 as u64, b"\n", 0, &mut own);
-    write(&own[..n], out)
+    if out.len() < 5 + decimal_length(age.0 as u64) {
+        return Written::Refused(Refusal::ShortBuffer);
+    }
+    Written::Wrote(put_between(b"age ", age.0 as u64, b"\n", 0, out))
 }
 
 // Puts the number that a stop tells, and behind a 2 the row that it carries.
@@ -76,16 +71,28 @@ fn put_reason(told: Told, at: usize, out: &mut [u8]) -> usize
     }
 }
 
+// How many bytes the number has, and behind a 2 the row.
+fn reason_length(told: Told) -> usize
+    ensures { λ r. ⌜ r ≡ length (reasonWords told) ⌝ }
+{
+    let n = decimal_length(told.number as u64);
+    if told.number != 2 {
+        return n;
+    }
+    n + 1 + decimal_length(told.carried as u64)
+}
+
 // Writes the line with the offset where a run stopped, and why.
 pub fn stop_line(offset: usize, stop: Stop, out: &mut [u8]) -> Written
     ensures { λ r. ⌜ outcome r (now (out .exit)) ≡ written (stopLine offset stop) (now (out .entry)) ⌝ }
 {
     let told = stop.told();
-    let mut own = [0u8; LONGEST_STOP_LINE];
-    let a = put_between(b"stop ", offset as u64, b" ", 0, &mut own);
-    let b = put_reason(told, a, &mut own);
-    let n = put_byte(b'\n', b, &mut own);
-    write(&own[..n], out)
+    if out.len() < 7 + decimal_length(offset as u64) + reason_length(told) {
+        return Written::Refused(Refusal::ShortBuffer);
+    }
+    let a = put_between(b"stop ", offset as u64, b" ", 0, out);
+    let b = put_reason(told, a, out);
+    Written::Wrote(put_byte(b'\n', b, out))
 }
 
 // Goes on at next where a line was written, and stays at a cursor where it was refused.

@@ -1,15 +1,21 @@
 // The words of a record's locale, in the legacy and in the new format.
 use answers::Counted;
+use answers::Refusal;
+use answers::Written;
 use buffer::put;
-use buffer::write;
+use language::language_length;
 use language::put_language;
 use language::put_region;
+use language::region_length;
 use record::ResTableConfig;
 use subtag::Copied;
 use subtag::put_subtag;
+use subtag::subtag_reach;
 ghost use mathlib.Core.Bool.{false};
+ghost use mathlib.Core.List.{_++_};
 ghost use mathlib.Core.Path.{_≡_};
-ghost use Prim.Native.Nat.{_%_, _/_};
+ghost use Prim.Native.Nat.{_%_, _/_, _≤_};
+ghost use lib.ListN.{length};
 ghost use Rattle.buffer.specs.Ascii.{ascii};
 ghost use Rattle.buffer.specs.Counted.{countedOutcome, counting};
 ghost use Rattle.buffer.specs.Written.{written};
@@ -48,19 +54,12 @@ fn put_own_region(sign: &[u8], r: ResTableConfig, at: usize, out: &mut [u8]) -> 
     )
 }
 
-// A subtag behind a sign, where it is there.
-fn put_behind(there: bool, sign: &[u8], src: &[u8], at: usize, out: &mut [u8]) -> Copied
-    ensures { λ n. ⌜ Copies (now (out .entry)) at (behind there (now (sign .entry)) (subtagOf (now (src .entry)))) (replacementsIn (whereThere there (now (src .entry)))) (now (out .exit)) n ⌝ }
+// A subtag behind its sign.
+fn put_behind(sign: &[u8], src: &[u8], at: usize, out: &mut [u8]) -> Copied
+    ensures { λ n. ⌜ Copies (now (out .entry)) at (now (sign .entry) ++ subtagOf (now (src .entry))) (replacements (now (src .entry))) (now (out .exit)) n ⌝ }
 {
-    if there {
-        let a = put(sign, at, out);
-        put_subtag(src, a, out)
-    } else {
-        Copied {
-            at,
-            replacements: 0,
-        }
-    }
+    let a = put(sign, at, out);
+    put_subtag(src, a, out)
 }
 
 // Whether a script was provided.
@@ -98,17 +97,27 @@ fn put_legacy(r: ResTableConfig, at: usize, out: &mut [u8]) -> Copied
 fn put_script(r: ResTableConfig, at: usize, out: &mut [u8]) -> Copied
     ensures { λ n. ⌜ Copies (now (out .entry)) at (behind (scriptProvided r) (ascii "+") (subtagOf (r .«locale_script»))) (replacementsIn (whereThere (scriptProvided r) (r .«locale_script»))) (now (out .exit)) n ⌝ }
 {
-    let script = r.locale_script;
-    let there = script_provided(r);
-    put_behind(there, b"+", &script, at, out)
+    if script_provided(r) {
+        let script = r.locale_script;
+        return put_behind(b"+", &script, at, out);
+    }
+    Copied {
+        at,
+        replacements: 0,
+    }
 }
 
 // Eight bytes behind a sign, where they begin with one that isn't 0.
 fn put_begun(sign: &[u8], src: [u8; 8], at: usize, out: &mut [u8]) -> Copied
     ensures { λ n. ⌜ Copies (now (out .entry)) at (behind (begins src) (now (sign .entry)) (subtagOf src)) (replacementsIn (whereThere (begins src) src)) (now (out .exit)) n ⌝ }
 {
-    let there = eight_begin(src);
-    put_behind(there, sign, &src, at, out)
+    if src[0] == 0 {
+        return Copied {
+            at,
+            replacements: 0,
+        };
+    }
+    put_behind(sign, &src, at, out)
 }
 
 // Puts the new format as far as the region: its sign, language, script and region.
@@ -166,6 +175,79 @@ pub fn put_locale(r: ResTableConfig, at: usize, out: &mut [u8]) -> Copied
     }
 }
 
+// How many bytes the record's language has.
+fn own_language_length(r: ResTableConfig) -> usize
+    ensures { λ n. ⌜ (n ≡ length (language r)) × (n ≤ 9) ⌝ }
+{
+    let locale = r.locale;
+    language_length((locale % 256) as u8, (locale / 256 % 256) as u8)
+}
+
+// How many bytes the record's region has behind its sign, where there is one.
+fn own_region_length(sign: &[u8], r: ResTableConfig) -> usize
+    requires { ⌜ length (now sign) ≤ 6 ⌝ }
+    ensures { λ n. ⌜ (n ≡ length (behind (hasRegion r) (now (sign .entry)) (region r))) × (n ≤ 10) ⌝ }
+{
+    let locale = r.locale;
+    if locale / 65536 % 256 == 0 {
+        return 0;
+    }
+    sign.len() + region_length((locale / 65536 % 256) as u8, (locale / 16777216) as u8)
+}
+
+// How many bytes a subtag has behind its sign, where it is there.
+fn behind_length(there: bool, sign: &[u8], src: &[u8]) -> usize
+    requires { ⌜ (length (now sign) ≤ 6) × (length (now src) ≤ 8) ⌝ }
+    ensures { λ n. ⌜ (n ≡ length (behind there (now (sign .entry)) (subtagOf (now (src .entry))))) × (n ≤ 30) ⌝ }
+{
+    if there {
+        sign.len() + subtag_reach(src, 24)
+    } else {
+        0
+    }
+}
+
+// How many bytes eight bytes have behind a sign, where they begin with one that isn't 0.
+fn begun_length(sign: &[u8], src: [u8; 8]) -> usize
+    requires { ⌜ length (now sign) ≤ 6 ⌝ }
+    ensures { λ n. ⌜ (n ≡ length (behind (begins src) (now (sign .entry)) (subtagOf src))) × (n ≤ 30) ⌝ }
+{
+    behind_length(eight_begin(src), sign, &src)
+}
+
+// How many bytes the record's script has behind a plus, where it was provided.
+fn script_length(r: ResTableConfig) -> usize
+    ensures { λ n. ⌜ (n ≡ length (behind (scriptProvided r) (ascii "+") (subtagOf (r .«locale_script»)))) × (n ≤ 30) ⌝ }
+{
+    let script = r.locale_script;
+    let there = script_provided(r);
+    behind_length(there, b"+", &script)
+}
+
+// How many bytes the new format has.
+fn new_length(r: ResTableConfig) -> usize
+    ensures { λ n. ⌜ n ≡ length (newWords r) ⌝ }
+{
+    let variant = r.locale_variant;
+    let numbering = r.locale_numbering_system;
+    let language = own_language_length(r);
+    let script = script_length(r);
+    let region = own_region_length(b"+", r);
+    let longer = begun_length(b"+", variant);
+    2 + language + script + region + longer + begun_length(b"+u+nu+", numbering)
+}
+
+// How many bytes the words of a record's locale have, whether or not they are said.
+pub fn locale_length(r: ResTableConfig) -> usize
+    ensures { λ n. ⌜ n ≡ length (localeWords r) ⌝ }
+    ensures { λ n. ⌜ n ≤ 84 ⌝ }
+{
+    if is_new(r) {
+        return new_length(r);
+    }
+    own_language_length(r) + own_region_length(b"-r", r)
+}
+
 // Puts the words of a record's locale where they are said.
 fn put_said(r: ResTableConfig, at: usize, out: &mut [u8]) -> Copied
     ensures { λ n. ⌜ Copies (now (out .entry)) at (localeText r) (textReplacements r) (now (out .exit)) n ⌝ }
@@ -180,14 +262,32 @@ fn put_said(r: ResTableConfig, at: usize, out: &mut [u8]) -> Copied
     }
 }
 
+// How many bytes those words have where they are said.
+fn said_length(r: ResTableConfig) -> usize
+    ensures { λ n. ⌜ n ≡ length (localeText r) ⌝ }
+{
+    if r.locale % 256 == 0 {
+        0
+    } else {
+        locale_length(r)
+    }
+}
+
 // Writes what a record's locale says, as 000 appends it to an empty text; where out is shorter, it is left as it is.
 pub fn write_locale(r: ResTableConfig, out: &mut [u8]) -> Counted
     ensures { λ n. ⌜ countedOutcome n (now (out .exit)) ≡ counting (textReplacements r) (written (localeText r) (now (out .entry))) ⌝ }
 {
-    let mut own = [0u8; 84];
-    let copied = put_said(r, 0, &mut own);
-    let answer = write(&own[..copied.at], out);
-    answer.counted(copied.replacements)
+    if out.len() < said_length(r) {
+        return Counted {
+            answer: Written::Refused(Refusal::ShortBuffer),
+            replacements: 0,
+        };
+    }
+    let copied = put_said(r, 0, out);
+    Counted {
+        answer: Written::Wrote(copied.at),
+        replacements: copied.replacements,
+    }
 }
 
 // How many replacements the text of a record has. They are counted with no room to write, so nothing is written.

@@ -30,11 +30,17 @@ count-shown : (held : Bool) (n : ℕ) → n ≤ 24 → length (decimal (replacem
 count-shown held n h =
     chosen (λ (m : ℕ). length (decimal m) ≤ 2) held (omega (arith, decimal-long 1 0 (omega arith))) (omega (arith, decimal-long 1 n (omega arith)))
 
--- a line, with an index, an offset and a size of d + 1, e + 1 and f + 1 digits at the most
+-- a line, which has fourteen marks, five spaces and a newline beside its numbers and its text
+pub laid-length : (i p size : ℕ) (marks text : List ℕ) (n : ℕ) → length marks ≡ 14
+    → length (laidOut i p size marks text n)
+    ≡ length (decimal i) + length (decimal p) + length (decimal size) + length (decimal n) + 20 + length text
+unfolding laidOut
+laid-length i p size marks text n m = simp length-append (omega arith)
+
+-- so with an index, an offset and a size of d + 1, e + 1 and f + 1 digits at the most
 laid-long : (d e f i p size : ℕ) (marks text : List ℕ) (n : ℕ) → length marks ≡ 14 → length text ≤ 1032 → length (decimal n) ≤ 2
     → length (decimal i) ≤ suc d → length (decimal p) ≤ suc e → length (decimal size) ≤ suc f → length (laidOut i p size marks text n) ≤ d + e + f + 1057
-unfolding laidOut
-laid-long d e f i p size marks text n m t k x y z = simp length-append (omega arith)
+laid-long d e f i p size marks text n m t k x y z = omega (arith, laid-length i p size marks text n m)
 
 pub record-long : (d e f a i p : ℕ) (s : List ℕ) → Bytes s → length (decimal i) ≤ suc d → length (decimal p) ≤ suc e → length (decimal (sizeOf s)) ≤ suc f
     → length (recordLine a i p s) ≤ d + e + f + 1057

@@ -1,16 +1,12 @@
-// A record's text as a line of the listing shows it. Machinery, as all that is called `put`: it refuses nothing.
+// A text as a line of the listing shows it. Machinery, as all that is called `put`: it refuses nothing.
 use buffer::put;
 use buffer::put_byte;
-use places_all::put_text;
-use record::ResTableConfig;
-use subtag::Copied;
-use text::LONGEST_TEXT;
 ghost use mathlib.Core.Path.{_≡_};
+ghost use Prim.Native.Nat.{_+_, _*_};
+ghost use lib.Dec.{leb};
+ghost use lib.ListN.{length};
 ghost use Rattle.buffer.specs.Put.{Put};
-ghost use Rattle.subtag.specs.Copies.{Copies};
-ghost use Rattle.locale.specs.Subtags.{textReplacements};
-ghost use Rattle.places.specs.Places.{textOf};
-ghost use Rattle.record_line.specs.RecordLine.{escaped, escapedAll, shownWords, visible};
+ghost use Rattle.record_line.specs.RecordLine.{escaped, escapedAll, shownUnless, visible};
 
 // Whether a byte stands in a line as it is.
 fn is_visible(b: u8) -> bool
@@ -53,20 +49,59 @@ fn put_escaped(text: &[u8], at: usize, out: &mut [u8]) -> usize
     o
 }
 
-// Puts the text of a record.
-pub fn put_shown(r: ResTableConfig, at: usize, out: &mut [u8]) -> Copied
-    ensures { λ n. ⌜ Copies (now (out .entry)) at (shownWords (textOf r)) (textReplacements r) (now (out .exit)) n ⌝ }
+// Puts a text, or "%!" where it is held back.
+pub(crate) fn put_shown_text(held: bool, text: &[u8], at: usize, out: &mut [u8]) -> usize
+    ensures { λ r. ⌜ Put (now (out .entry)) at (shownUnless held (now (text .entry))) (now (out .exit)) r ⌝ }
 {
-    let mut own = [0u8; LONGEST_TEXT];
-    let copied = put_text(r, &mut own);
-    if copied.at == 0 {
-        return Copied {
-            at: put(b"%-", at, out),
-            replacements: copied.replacements,
-        };
+    if held {
+        return put(b"%!", at, out);
     }
-    Copied {
-        at: put_escaped(&own[..copied.at], at, out),
-        replacements: copied.replacements,
+    if text.len() == 0 {
+        return put(b"%-", at, out);
     }
+    put_escaped(text, at, out)
+}
+
+// 1 for a byte of a text that takes two bytes more than itself, 0 for one that stands as it is.
+fn hidden(b: u8) -> usize
+    ensures { λ r. ⌜ length (escaped b) ≡ 1 + 2 * r ⌝ }
+{
+    if is_visible(b) {
+        return 0;
+    }
+    1
+}
+
+// How many bytes of a text don't stand as they are.
+fn hidden_in(text: &[u8]) -> usize
+    ensures { λ r. ⌜ length (escapedAll (now (text .entry))) ≡ length (now (text .entry)) + 2 * r ⌝ }
+{
+    let mut n = 0;
+    let mut j = 0;
+    while j < text.len() {
+        n += hidden(text[j]);
+        j += 1;
+    }
+    n
+}
+
+// Whether a text fits into so many bytes of room, or "%!" where it is held back. A byte takes one to three, so that its bytes are
+// looked at only where that doesn't tell.
+pub(crate) fn shown_fits(held: bool, text: &[u8], room: usize) -> bool
+    ensures { λ r. ⌜ r ≡ leb (length (shownUnless held (now (text .entry)))) room ⌝ }
+{
+    if held {
+        return 2 <= room;
+    }
+    let n = text.len();
+    if n == 0 {
+        return 2 <= room;
+    }
+    if n <= room / 3 {
+        return true;
+    }
+    if room < n {
+        return false;
+    }
+    hidden_in(text) <= (room - n) / 2
 }

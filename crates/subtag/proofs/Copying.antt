@@ -1,19 +1,19 @@
--- Laws of copiers: behind what is put, and into a buffer of its own that is then written. Assumes nothing.
-use Prim.Native.Nat.{ℕ, _+_, _≤_}
+-- Laws of copiers: behind what is put, and into a lent buffer where it holds the text. Assumes nothing.
+use Prim.Native.Nat.{ℕ, _+_, _≤_, _<_}
 use mathlib.Core.Path.{_≡_, sym, ap₂, _∙_}
 use mathlib.Core.List.{List, [], _∷_, _++_}
 use native.Mathlib.Omega.{arith}
-use lib.ListN.{length, take}
-use Rattle.answers.specs.declared.Counted.{Counted}
+use lib.ListN.{length}
+use Rattle.answers.specs.declared.Refusal.{Refusal}
 use Rattle.answers.specs.declared.Written.{Written}
 use Rattle.answers.specs.Counted.{countedWith}
 use Rattle.buffer.specs.Counted.{countedOutcome, counting}
 use Rattle.buffer.specs.Put.{Put}
-use Rattle.buffer.specs.Written.{outcome, written}
+use Rattle.buffer.specs.Written.{written}
 use Rattle.buffer.proofs.Counting.{answer-counted}
 use Rattle.buffer.proofs.OneOutcome.{one-put}
 use Rattle.buffer.proofs.Putting.{put-put, front-ends}
-use Rattle.buffer.proofs.Writing.{copied, put-written}
+use Rattle.buffer.proofs.Writing.{put-written, written-short}
 use Rattle.subtag.specs.declared.Copied.{Copied}
 use Rattle.subtag.specs.Copies.{Copies}
 use Rattle.subtag.specs.Replacements.{replacementsIn}
@@ -47,8 +47,7 @@ pub copy-written : {old : List ℕ} {w : List ℕ} {n : ℕ} {new : List ℕ} {r
 copy-written {n = n} {r = r} h p =
     rw (p .counts) (answer-counted n (Written.Wrote (r .at)) (rw (front-ends (p .puts) h) (put-written h (p .puts))))
 
--- a copy into a buffer of its own, which holds the text, that is written from there
-pub copy-copied : {own : List ℕ} {w : List ℕ} {n : ℕ} {held : List ℕ} {r : Copied} (old : List ℕ) (answer : Written) {new : List ℕ} {c : Counted}
-    → length w ≤ length own → Copies own 0 w n held r → outcome answer new ≡ written (take (r .at) held) old → c ≡ countedWith (r .replacements) answer
-    → countedOutcome c new ≡ counting n (written w old)
-copy-copied {n = n} old answer h p e k = rw (k, p .counts) (answer-counted n answer (e ∙ copied old h (p .puts)))
+-- where the lent buffer doesn't hold it, nothing is copied and the call is refused
+pub copy-short : (n : ℕ) (w old : List ℕ) → length old < length w
+    → countedOutcome (countedWith 0 (Written.Refused Refusal.ShortBuffer)) old ≡ counting n (written w old)
+copy-short n w old h = answer-counted n (Written.Refused Refusal.ShortBuffer) (sym (written-short w old h))

@@ -29,7 +29,7 @@ unfolding replacements illFormedBy frontOf okAt
 nul-alone [] h = refl
 nul-alone (b ∷ s) h = absurd (omega arith)
 
-count-nul : (s : List ℕ) → replacements (s ++ 0 ∷ []) ≡ replacements s
+pub count-nul : (s : List ℕ) → replacements (s ++ 0 ∷ []) ≡ replacements s
 count-nul =
     by-fronts (λ s. replacements (s ++ 0 ∷ []) ≡ replacements s) nul-alone
     (λ s h behind.

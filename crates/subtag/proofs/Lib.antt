@@ -2,6 +2,7 @@ pub mod Copying
 pub mod Counts
 pub mod Examples
 pub mod Laws
+pub mod Letters
 pub mod Long
 pub mod Low
 pub mod Nuls

@@ -58,7 +58,7 @@ pub subtag-long : (s : List ℕ) → length (subtagOf s) ≤ 3 * length s
 subtag-long s = omega (arith, subtag-kept s, drop-long s)
 
 -- a byte below 80 stands for itself
-low-front : (b : ℕ) (s : List ℕ) → b < 128 → replaced (b ∷ s) ≡ b ∷ replaced s
+pub low-front : (b : ℕ) (s : List ℕ) → b < 128 → replaced (b ∷ s) ≡ b ∷ replaced s
 low-front b s h =
     let w : frontOf (b ∷ s) ≡ Front.WellFormed 1 = low-judged b s h in
     rw w at (replaced-more (b ∷ s) (omega arith))

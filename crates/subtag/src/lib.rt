@@ -11,8 +11,8 @@ use utf8::Front;
 use utf8::first;
 ghost use mathlib.Core.Path.{_≡_};
 ghost use Prim.Native.Nat.{_≤_, _<_};
-ghost use lib.Dec.{leb};
 ghost use lib.ListN.{length, take};
+ghost use Rattle.buffer.specs.Put.{reach};
 ghost use Rattle.buffer.specs.Counted.{countedOutcome, counting};
 ghost use Rattle.buffer.specs.Written.{written};
 ghost use Rattle.subtag.specs.Copies.{Copies};
@@ -123,38 +123,54 @@ fn measure(src: &[u8]) -> Sizes
     }
 }
 
-// Whether src with its ill-formed parts replaced has no more than room bytes.
-fn fits(src: &[u8], room: usize) -> bool
-    ensures { λ r. ⌜ r ≡ leb (length (replaced (now (src .entry)))) room ⌝ }
+// Where src with its ill-formed parts replaced would stop at the front of a buffer of room bytes. Bytes below 0x80 are looked at first here,
+// too.
+fn replaced_reach(src: &[u8], room: usize) -> usize
+    ensures { λ r. ⌜ r ≡ reach room 0 (replaced (now (src .entry))) ⌝ }
 {
-    let mut left = room;
+    let mut o = 0;
     let mut i = 0;
     while i < src.len() {
-        let front = measure(&src[i..]);
-        if left < front.becomes {
-            return false;
+        if src[i] < 0x80 {
+            if o == room {
+                return room;
+            }
+            o += 1;
+            i += 1;
+        } else {
+            let front = measure(&src[i..]);
+            if room - o < front.becomes {
+                return room;
+            }
+            o += front.becomes;
+            i += front.taken;
         }
-        left -= front.becomes;
-        i += front.taken;
     }
-    true
+    o
+}
+
+// Where a subtag would stop at the front of a buffer of room bytes: behind it, or where there is no room. So it tells the length of a
+// subtag that isn't longer, and writes nothing.
+pub fn subtag_reach(src: &[u8], room: usize) -> usize
+    ensures { λ r. ⌜ r ≡ reach room 0 (subtagOf (now (src .entry))) ⌝ }
+{
+    let n = trim(src);
+    replaced_reach(&src[..n], room)
 }
 
 // Writes a subtag to the front of out; where out is shorter, it is left as it is.
 pub fn write_subtag(src: &[u8], out: &mut [u8]) -> Counted
     ensures { λ r. ⌜ countedOutcome r (now (out .exit)) ≡ counting (replacements (now (src .entry))) (written (subtagOf (now (src .entry))) (now (out .entry))) ⌝ }
 {
-    let n = trim(src);
-    if fits(&src[..n], out.len()) {
-        let copied = put_replaced(&src[..n], 0, out);
-        Counted {
-            answer: Written::Wrote(copied.at),
-            replacements: copied.replacements,
-        }
-    } else {
-        Counted {
+    if out.len() < subtag_reach(src, out.len() + 1) {
+        return Counted {
             answer: Written::Refused(Refusal::ShortBuffer),
             replacements: 0,
-        }
+        };
+    }
+    let copied = put_subtag(src, 0, out);
+    Counted {
+        answer: Written::Wrote(copied.at),
+        replacements: copied.replacements,
     }
 }

@@ -1,6 +1,6 @@
 -- What each place adds to a text at the most. Assumes nothing.
 use Prim.Native.Nat.{ℕ, _+_, _-_, _≤_, _<_}
-use mathlib.Core.Bool.{Bool, true, false, cond}
+use mathlib.Core.Bool.{Bool, true, false}
 use mathlib.Core.List.{List, [], _∷_, _++_}
 use native.Mathlib.Omega.{arith}
 use lib.Bits.{bitAnd, and-le-r}
@@ -33,32 +33,15 @@ use Rattle.kinds.specs.declared.screen.ScreenSize.{ScreenSize}
 use Rattle.kinds.specs.declared.screen.WideColorGamut.{WideColorGamut}
 use Rattle.places.specs.Say.{Place, say, dashAfter, sayAll}
 use Rattle.places.specs.Places.{kindPlace, dpPlace, some}
-
--- a place adds a dash and its words where it is said
-abbrev pub cost : Place → ℕ
-cost p = cond (p .0) (1 + length (p .1)) 0
-
-abbrev pub total : List Place → ℕ
-total [] = 0
-total (p ∷ ps) = cost p + total ps
-
-say-long : (t : List ℕ) (said : Bool) (w : List ℕ) → length (say t said w) ≤ length t + cost (said, w)
-unfolding say dashAfter
-say-long t false w = omega arith
-say-long [] true w = omega arith
-say-long (b ∷ t) true w = omega (arith, length-append ((b ∷ t) ++ ascii "-") w, length-append (b ∷ t) (ascii "-"))
-
-all-long : (t : List ℕ) (ps : List Place) → length (sayAll t ps) ≤ length t + total ps
-unfolding sayAll
-all-long t [] = omega arith
-all-long t (p ∷ ps) = omega (arith, all-long (say t (p .0) (p .1)) ps, say-long t (p .0) (p .1))
+use Rattle.text_length.proofs.Total.{cost, total, all-adds}
 
 -- the first place that is said has no dash
 first-by : (said : Bool) (w : List ℕ) (ps : List Place) → length (sayAll [] ps) ≤ total ps - 1
     → length (sayAll (say [] said w) ps) ≤ cost (said, w) + total ps - 1
 unfolding say dashAfter
 first-by false w ps h = omega arith
-first-by true w ps h = omega (arith, all-long w ps)
+first-by true [] ps h = omega arith
+first-by true (b ∷ w) ps h = omega (arith, all-adds b w ps)
 
 pub first-long : (ps : List Place) → length (sayAll [] ps) ≤ total ps - 1
 unfolding sayAll

@@ -4,7 +4,6 @@ use answers::Refusal;
 use answers::Taken;
 use answers::Told;
 use answers::Written;
-use buffer::write;
 use locale::replacements_in;
 use marking::Held;
 use marking::held_back;
@@ -15,7 +14,11 @@ use reading::parse_aged;
 use reading::take;
 use record::Age;
 use record::ResTableConfig;
+use text_length::text_length;
 ghost use mathlib.Core.Path.{_≡_};
+ghost use Prim.Native.Nat.{_≤_};
+ghost use lib.Dec.{leb};
+ghost use lib.ListN.{length};
 ghost use Rattle.answers.specs.Counted.{countedWith};
 ghost use Rattle.answers.specs.declared.Written.{Written};
 ghost use Rattle.buffer.specs.Counted.{countedOutcome, counting};
@@ -45,23 +48,6 @@ impl Replaced {
     }
 }
 
-// Writes the text of a record, as 000's `as_string` has it. Where out has room for any text it is put there at once.
-pub fn as_string(r: ResTableConfig, out: &mut [u8]) -> Counted
-    ensures { λ n. ⌜ countedOutcome n (now (out .exit)) ≡ counting (textReplacements r) (written (textOf r) (now (out .entry))) ⌝ }
-{
-    if LONGEST_TEXT <= out.len() {
-        let copied = put_text(r, out);
-        return Counted {
-            answer: Written::Wrote(copied.at),
-            replacements: copied.replacements,
-        };
-    }
-    let mut own = [0u8; LONGEST_TEXT];
-    let copied = put_text(r, &mut own);
-    let answer = write(&own[..copied.at], out);
-    answer.counted(copied.replacements)
-}
-
 // What a refused call answers.
 fn refused(why: Refusal) -> Counted
     ensures { λ r. ⌜ r ≡ countedWith 0 (Written.Refused why) ⌝ }
@@ -72,14 +58,47 @@ fn refused(why: Refusal) -> Counted
     }
 }
 
+// Whether the text of a record fits into so many bytes of room. Where any text does, its length isn't asked.
+fn fits(r: ResTableConfig, room: usize) -> bool
+    ensures { λ b. ⌜ b ≡ leb (length (textOf r)) room ⌝ }
+{
+    if LONGEST_TEXT <= room {
+        return true;
+    }
+    text_length(r) <= room
+}
+
+// Puts the text of a record that out holds.
+fn put_whole(r: ResTableConfig, out: &mut [u8]) -> Counted
+    requires { ⌜ length (textOf r) ≤ length (now out) ⌝ }
+    ensures { λ n. ⌜ countedOutcome n (now (out .exit)) ≡ counting (textReplacements r) (written (textOf r) (now (out .entry))) ⌝ }
+{
+    let copied = put_text(r, out);
+    Counted {
+        answer: Written::Wrote(copied.at),
+        replacements: copied.replacements,
+    }
+}
+
+// Writes the text of a record, as 000's `as_string` has it; where out is shorter, it is left as it is.
+pub fn as_string(r: ResTableConfig, out: &mut [u8]) -> Counted
+    ensures { λ n. ⌜ countedOutcome n (now (out .exit)) ≡ counting (textReplacements r) (written (textOf r) (now (out .entry))) ⌝ }
+{
+    if fits(r, out.len()) {
+        return put_whole(r, out);
+    }
+    refused(Refusal::ShortBuffer)
+}
+
 // Writes the plain text of the record at the front of bytes.
 pub fn plain_text(bytes: &[u8], out: &mut [u8]) -> Counted
     ensures { λ r. ⌜ countedOutcome r (now (out .exit)) ≡ countedPlain (now (bytes .entry)) (now (out .entry)) ⌝ }
 {
-    match take(bytes) {
+    let parsed = parse(bytes);
+    let answer = parsed.answer;
+    match answer {
         Taken::Refused(refusal) => refused(refusal),
         Taken::Took(_) => {
-            let parsed = parse(bytes);
             let record = parsed.record;
             as_string(record, out)
         }
@@ -101,7 +120,10 @@ pub fn aged_text(bytes: &[u8], age: Age, out: &mut [u8]) -> Counted
             }
             let parsed = parse_aged(bytes, age);
             let record = parsed.record;
-            as_string(record, out)
+            if fits(record, out.len()) {
+                return put_whole(record, out);
+            }
+            refused(Refusal::ShortBuffer)
         }
     }
 }

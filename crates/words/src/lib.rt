@@ -1,11 +1,23 @@
 // The words of the sixteen kinds, as 000 displays them.
+mod lengths;
+
+use answers::Refusal;
 use answers::Written;
-use buffer::write;
 use kinds::Kind;
+ghost use Prim.Native.Nat.{_≤_};
 ghost use mathlib.Core.Path.{_≡_};
+ghost use lib.ListN.{length};
 ghost use Rattle.buffer.specs.Put.{Put};
 ghost use Rattle.buffer.specs.Written.{outcome, written};
 ghost use Rattle.words.specs.Words.{wordsOf};
+
+// How many bytes the words of a kind have: never more than 25.
+pub fn words_length(kind: Kind) -> usize
+    ensures { λ r. ⌜ r ≡ length (wordsOf kind) ⌝ }
+    ensures { λ r. ⌜ r ≤ 25 ⌝ }
+{
+    lengths::kind_length(kind)
+}
 
 // Puts the words of a kind. Machinery: it stops at the buffer's end and refuses nothing.
 pub fn put_words(kind: Kind, at: usize, out: &mut [u8]) -> usize
@@ -35,7 +47,11 @@ pub fn put_words(kind: Kind, at: usize, out: &mut [u8]) -> usize
 pub fn write_words(kind: Kind, out: &mut [u8]) -> Written
     ensures { λ r. ⌜ outcome r (now (out .exit)) ≡ written (wordsOf kind) (now (out .entry)) ⌝ }
 {
-    let mut own = [0u8; 32];
-    let n = put_words(kind, 0, &mut own);
-    write(&own[..n], out)
+    let n = words_length(kind);
+    if n <= out.len() {
+        put_words(kind, 0, out);
+        Written::Wrote(n)
+    } else {
+        Written::Refused(Refusal::ShortBuffer)
+    }
 }

@@ -1,6 +1,6 @@
--- The subtag stands behind its sign, where it is there. Assumes nothing.
-use Rattle.locale.proofs.Behind.{behind-there, behind-none}
+-- The subtag stands behind its sign. Assumes nothing.
 use borrow.Author.Needs.{needs}
+use Rattle.subtag.proofs.Copying.{put-copy}
 use Rattle.locale.proofs.put_behind.Statement.{statement}
 use Rattle.locale.proofs.put_behind.Tie as tie
 
@@ -13,9 +13,4 @@ put-behind-spec =
     let put-subtag = c .before .before in
     let out = put-subtag .before .before .before in
     let put = out .before in
-    let if1 = put .before .before in
-    behind-there _ _ _ (if1 .if1 .taken) (put .put .ensures) (put-subtag .put-subtag .ensures))
-    (λ c.
-    let shared-slice-known = c .before .before .before in
-    let start = shared-slice-known .before in
-    behind-none (start .args .sign .now) _ (start .args .src .now) (c .if1 .left)))
+    put-copy (put .put .ensures) (put-subtag .put-subtag .ensures)))
