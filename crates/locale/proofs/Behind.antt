@@ -2,7 +2,7 @@
 use Prim.Native.Nat.{ℕ}
 use mathlib.Core.Path.{_≡_, refl}
 use mathlib.Core.Bool.{Bool, true, false}
-use mathlib.Core.List.{List, _++_}
+use mathlib.Core.List.{List}
 use Rattle.buffer.specs.Put.{Put}
 use Rattle.buffer.proofs.Putting.{put-nil}
 use Rattle.subtag.specs.declared.Copied.{Copied}
@@ -13,13 +13,9 @@ use Rattle.locale.specs.Locale.{behind}
 use Rattle.locale.proofs.Counts.{part, part-is}
 
 module _ (sign w s : List ℕ) {old : List ℕ} {at : ℕ} {there : Bool} where
-  pub behind-copied : {new : List ℕ} {r : Copied} → there ≡ true → Copies old at (sign ++ w) (replacements s) new r
-      → Copies old at (behind there sign w) (part there s) new r
-  behind-copied e p = rw (part-is there s, e) p
-
   pub behind-there : {mid : List ℕ} {a : ℕ} {new : List ℕ} {r : Copied} → there ≡ true → Put old at sign mid a → Copies mid a w (replacements s) new r
       → Copies old at (behind there sign w) (part there s) new r
-  behind-there e p q = behind-copied e (put-copy p q)
+  behind-there e p q = rw (part-is there s, e) (put-copy p q)
 
   pub behind-none : there ≡ false → Copies old at (behind there sign w) (part there s) old (record { at = at; replacements = 0 })
   behind-none e = rw e (record { puts = put-nil; counts = refl })

@@ -54,14 +54,6 @@ fn put_own_region(sign: &[u8], r: ResTableConfig, at: usize, out: &mut [u8]) -> 
     )
 }
 
-// A subtag behind its sign.
-fn put_behind(sign: &[u8], src: &[u8], at: usize, out: &mut [u8]) -> Copied
-    ensures { λ n. ⌜ Copies (now (out .entry)) at (now (sign .entry) ++ subtagOf (now (src .entry))) (replacements (now (src .entry))) (now (out .exit)) n ⌝ }
-{
-    let a = put(sign, at, out);
-    put_subtag(src, a, out)
-}
-
 // Whether a script was provided.
 fn script_provided(r: ResTableConfig) -> bool
     ensures { λ b. ⌜ b ≡ scriptProvided r ⌝ }
@@ -99,7 +91,8 @@ fn put_script(r: ResTableConfig, at: usize, out: &mut [u8]) -> Copied
 {
     if script_provided(r) {
         let script = r.locale_script;
-        return put_behind(b"+", &script, at, out);
+        let a = put(b"+", at, out);
+        return put_subtag(&script, a, out);
     }
     Copied {
         at,
@@ -107,17 +100,34 @@ fn put_script(r: ResTableConfig, at: usize, out: &mut [u8]) -> Copied
     }
 }
 
-// Eight bytes behind a sign, where they begin with one that isn't 0.
-fn put_begun(sign: &[u8], src: [u8; 8], at: usize, out: &mut [u8]) -> Copied
-    ensures { λ n. ⌜ Copies (now (out .entry)) at (behind (begins src) (now (sign .entry)) (subtagOf src)) (replacementsIn (whereThere (begins src) src)) (now (out .exit)) n ⌝ }
+// The record's variant behind a plus, where it begins with a byte that isn't 0.
+fn put_variant(r: ResTableConfig, at: usize, out: &mut [u8]) -> Copied
+    ensures { λ n. ⌜ Copies (now (out .entry)) at (behind (begins (r .«locale_variant»)) (ascii "+") (subtagOf (r .«locale_variant»))) (replacementsIn (whereThere (begins (r .«locale_variant»)) (r .«locale_variant»))) (now (out .exit)) n ⌝ }
 {
-    if src[0] == 0 {
-        return Copied {
-            at,
-            replacements: 0,
-        };
+    let variant = r.locale_variant;
+    if eight_begin(variant) {
+        let a = put(b"+", at, out);
+        return put_subtag(&variant, a, out);
     }
-    put_behind(sign, &src, at, out)
+    Copied {
+        at,
+        replacements: 0,
+    }
+}
+
+// The record's numbering system behind its sign, where it begins with a byte that isn't 0.
+fn put_numbering(r: ResTableConfig, at: usize, out: &mut [u8]) -> Copied
+    ensures { λ n. ⌜ Copies (now (out .entry)) at (behind (begins (r .«locale_numbering_system»)) (ascii "+u+nu+") (subtagOf (r .«locale_numbering_system»))) (replacementsIn (whereThere (begins (r .«locale_numbering_system»)) (r .«locale_numbering_system»))) (now (out .exit)) n ⌝ }
+{
+    let numbering = r.locale_numbering_system;
+    if eight_begin(numbering) {
+        let a = put(b"+u+nu+", at, out);
+        return put_subtag(&numbering, a, out);
+    }
+    Copied {
+        at,
+        replacements: 0,
+    }
 }
 
 // Puts the new format as far as the region: its sign, language, script and region.
@@ -138,11 +148,9 @@ fn put_tag(r: ResTableConfig, at: usize, out: &mut [u8]) -> Copied
 fn put_new(r: ResTableConfig, at: usize, out: &mut [u8]) -> Copied
     ensures { λ n. ⌜ Copies (now (out .entry)) at (newWords r) (localeReplacements r) (now (out .exit)) n ⌝ }
 {
-    let variant = r.locale_variant;
-    let numbering = r.locale_numbering_system;
     let tag = put_tag(r, at, out);
-    let longer = put_begun(b"+", variant, tag.at, out);
-    let longest = put_begun(b"+u+nu+", numbering, longer.at, out);
+    let longer = put_variant(r, tag.at, out);
+    let longest = put_numbering(r, longer.at, out);
     Copied {
         at: longest.at,
         replacements: tag.replacements + longer.replacements + longest.replacements,

@@ -7,34 +7,29 @@ use borrow.Author.Needs.{needs}
 use Rattle.locale.proofs.put_new.Statement.{statement}
 use Rattle.locale.proofs.put_new.Tie as tie
 
-add-variant : tie.Need-add-t21
+add-variant : tie.Need-add-t13
 add-variant c =
-    let out = c .before .before .before in
-    let put-begun-arg3 = out .before .before .before in
-    let variant = put-begun-arg3 .before .before .before in
-    let put-begun-arg = variant .before .before in
-    let put-tag = put-begun-arg .before .before .before in
-    let variant-at = put-tag .before .before .before in
-    let start = variant-at .before .before in
+    let known = c .before .before in
+    let numbering = known .before .before in
+    let variant = numbering .before .before .before .before in
+    let put-tag = variant .before .before .before .before in
+    let start = put-tag .before .before .before in
     let f = few (start .args .r) _ (start .good .0) in
-    omega (arith, put-tag .put-tag .ensures .counts, variant .put-begun .ensures .counts, f .language, f .script, f .region, f .variant)
+    omega (arith, put-tag .put-tag .ensures .counts, variant .put-variant .ensures .counts, f .language, f .script, f .region, f .variant)
 
-add-numbering : tie.Need-add-t22
+add-numbering : tie.Need-add-t14
 add-numbering c =
-    let slice-known = c .before .before .before in
-    let numbering = slice-known .before .before in
-    let put-begun-arg3 = numbering .before .before in
-    let variant = put-begun-arg3 .before .before .before in
-    let put-begun-arg = variant .before .before in
-    let put-tag = put-begun-arg .before .before .before in
-    let variant-at = put-tag .before .before .before in
-    let start = variant-at .before .before in
+    let known = c .before .before .before in
+    let numbering = known .before .before in
+    let variant = numbering .before .before .before .before in
+    let put-tag = variant .before .before .before .before in
+    let start = put-tag .before .before .before in
     let f = few (start .args .r) _ (start .good .0) in
     omega (
       arith,
       put-tag .put-tag .ensures .counts,
-      variant .put-begun .ensures .counts,
-      numbering .put-begun2 .ensures .counts,
+      variant .put-variant .ensures .counts,
+      numbering .put-numbering .ensures .counts,
       f .language,
       f .script,
       f .region,
@@ -45,19 +40,15 @@ add-numbering c =
 returns : tie.Need-returns
 unfolding newWords
 returns c =
-    let slice-known = c .before .before .before in
-    let numbering = slice-known .before .before in
-    let put-begun-arg3 = numbering .before .before in
-    let variant = put-begun-arg3 .before .before .before in
-    let put-begun-arg = variant .before .before in
-    let put-tag = put-begun-arg .before .before .before in
-    let variant-at = put-tag .before .before .before in
-    let start = variant-at .before .before in
+    let known = c .before .before .before in
+    let numbering = known .before .before in
+    let variant = numbering .before .before .before .before in
+    let put-tag = variant .before .before .before .before in
+    let start = put-tag .before .before .before in
     rw (parts-new (start .args .r))
-    (copy-copy (copy-copy (put-tag .put-tag .ensures) (variant .put-begun .ensures)) (numbering .put-begun2 .ensures))
+    (copy-copy (copy-copy (put-tag .put-tag .ensures) (variant .put-variant .ensures)) (numbering .put-numbering .ensures))
 
 pub put-new-spec : {M : Type 1} → statement M
 put-new-spec =
     tie.close
-    (tie.spec
-    (λ c κs. tt) (λ c. search needs) (λ c κs. tt) (λ c. search needs) (λ c κs. tt) add-variant add-numbering (λ c. search needs) returns)
+    (tie.spec (λ c κs. tt) (λ c κs. tt) (λ c κs. tt) add-variant add-numbering (λ c. search needs) returns)
