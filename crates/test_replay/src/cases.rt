@@ -109,7 +109,7 @@ fn put_words(kind: Kind, at: usize, out: &mut [u8]) -> usize {
     if out.len() < at {
         return 0;
     }
-    match words::write_words(kind, &mut out[at..]) {
+    match words_length::write_words(kind, &mut out[at..]) {
         Written::Wrote(n) => std::num::wrapping_add_usize(at, n),
         Written::Refused(_) => 0,
     }

@@ -2,7 +2,7 @@
 use buffer::decimal_length;
 use kinds::Kind;
 use said_kinds::kind_said;
-use words::words_length;
+use words_length::words_length;
 ghost use Prim.Native.Nat.{suc, _+_, _≤_};
 ghost use mathlib.Core.Bool.{cond};
 ghost use mathlib.Core.List.{_∷_, []};

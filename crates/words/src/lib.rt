@@ -1,23 +1,7 @@
 // The words of the sixteen kinds, as 000 displays them.
-mod lengths;
-
-use answers::Refusal;
-use answers::Written;
 use kinds::Kind;
-ghost use Prim.Native.Nat.{_≤_};
-ghost use mathlib.Core.Path.{_≡_};
-ghost use lib.ListN.{length};
 ghost use Rattle.buffer.specs.Put.{Put};
-ghost use Rattle.buffer.specs.Written.{outcome, written};
 ghost use Rattle.words.specs.Words.{wordsOf};
-
-// How many bytes the words of a kind have: never more than 25.
-pub fn words_length(kind: Kind) -> usize
-    ensures { λ r. ⌜ r ≡ length (wordsOf kind) ⌝ }
-    ensures { λ r. ⌜ r ≤ 25 ⌝ }
-{
-    lengths::kind_length(kind)
-}
 
 // Puts the words of a kind. Machinery: it stops at the buffer's end and refuses nothing.
 pub fn put_words(kind: Kind, at: usize, out: &mut [u8]) -> usize
@@ -40,18 +24,5 @@ pub fn put_words(kind: Kind, at: usize, out: &mut [u8]) -> usize
         Kind::Keyboard(k) => words_input::put_keyboard(k, at, out),
         Kind::NavHidden(k) => words_input::put_nav_hidden(k, at, out),
         Kind::Navigation(k) => words_input::put_navigation(k, at, out),
-    }
-}
-
-// Writes the words of a kind to the front of out; where out is shorter, it is left as it is.
-pub fn write_words(kind: Kind, out: &mut [u8]) -> Written
-    ensures { λ r. ⌜ outcome r (now (out .exit)) ≡ written (wordsOf kind) (now (out .entry)) ⌝ }
-{
-    let n = words_length(kind);
-    if n <= out.len() {
-        put_words(kind, 0, out);
-        Written::Wrote(n)
-    } else {
-        Written::Refused(Refusal::ShortBuffer)
     }
 }
