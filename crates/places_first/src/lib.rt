@@ -1,4 +1,5 @@
-// The first thirteen places of a record, put one after the other, a few to a function.
+// The first thirteen places of a record, put one after the other, a few to a function. A word of the record that is 0 says none of
+// its places, so that some are tested by their word first.
 //
 // `put_first` is machinery: it stops at the buffer's end and refuses nothing.
 mod kind_places;
@@ -52,17 +53,29 @@ fn places_from_4(r: ResTableConfig, at: usize, out: &mut [u8]) -> usize
     dp_place(b"h", dp.screen_height_dp, c, out)
 }
 
-// Places 8 to 12: size, long, round, wide gamut and HDR.
+// Places 8 and 9: size and long, of `screen_config`.
 fn places_from_8(r: ResTableConfig, at: usize, out: &mut [u8]) -> usize
-    ensures { λ n. ⌜ Says (now (out .entry)) at (take 5 (drop 8 (placesOf r))) (now (out .exit)) n ⌝ }
+    ensures { λ n. ⌜ Says (now (out .entry)) at (take 2 (drop 8 (placesOf r))) (now (out .exit)) n ⌝ }
 {
+    if r.screen_config == 0 {
+        return at;
+    }
     let layout = r.get_screen_layout_ui_smallest_width();
-    let second = r.get_screen_layout_2_color_mode();
     let a = screen_size_place(layout.screen_layout, at, out);
-    let b = screen_long_place(layout.screen_layout, a, out);
-    let c = screen_round_place(second.screen_layout_2, b, out);
-    let d = wide_color_gamut_place(second.color_mode, c, out);
-    hdr_place(second.color_mode, d, out)
+    screen_long_place(layout.screen_layout, a, out)
+}
+
+// Places 10 to 12: round, wide gamut and HDR, of `screen_config_2`.
+fn places_from_10(r: ResTableConfig, at: usize, out: &mut [u8]) -> usize
+    ensures { λ n. ⌜ Says (now (out .entry)) at (take 3 (drop 10 (placesOf r))) (now (out .exit)) n ⌝ }
+{
+    if r.screen_config_2 == 0 {
+        return at;
+    }
+    let second = r.get_screen_layout_2_color_mode();
+    let a = screen_round_place(second.screen_layout_2, at, out);
+    let b = wide_color_gamut_place(second.color_mode, a, out);
+    hdr_place(second.color_mode, b, out)
 }
 
 // Puts places 0 to 12 at the front of out. The locale is among them, and with it all that is replaced.
@@ -71,8 +84,9 @@ pub fn put_first(r: ResTableConfig, out: &mut [u8]) -> Copied
 {
     let a = places_from_0(r, 0, out);
     let b = places_from_4(r, a.at, out);
+    let c = places_from_8(r, b, out);
     Copied {
-        at: places_from_8(r, b, out),
+        at: places_from_10(r, c, out),
         replacements: a.replacements,
     }
 }
