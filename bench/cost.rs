@@ -7,6 +7,7 @@
 //! `main` is C's: the kit's emulator can't bear Rust's own start-up.
 #![no_main]
 
+mod named;
 #[path = "../tests/rust/shim.rs"]
 mod shim;
 #[path = "../tests/rust/subject.rs"]
@@ -20,6 +21,7 @@ unsafe extern "C" {
     fn probe_blank(bytes: *const u8, len: usize) -> bool;
     fn probe_text(bytes: *const u8, len: usize, out: *mut u8, room: usize) -> usize;
     fn probe_order(a: *const u8, a_len: usize, b: *const u8, b_len: usize) -> u32;
+    fn res_table_config_named(name: *const u8, len: usize, out: *mut u8, cap: usize) -> u64;
 }
 
 /// A record of 64 bytes: what stands at which offset, and zero elsewhere.
@@ -35,7 +37,7 @@ const LONGEST: Parts = &[
     (48, &[1, 9, 0, 0, 0, 255, 255, 255, 255, 255, 255, 255, 255]),
 ];
 
-/// What is called. Each goes from bytes, so a parse counts in all of them, on both sides alike.
+/// What is called. Each but the last goes from a record's bytes, so a parse counts in all of them, on both sides alike.
 #[derive(Clone, Copy)]
 enum Call {
     /// Parsing, and the record held against the one that holds nothing, so that every field is looked at.
@@ -44,16 +46,19 @@ enum Call {
     Text,
     /// Two parses and the order of their records; the second has 1 in the byte at this offset.
     Order(usize),
+    /// The record's text as the name of a directory, read into the record: by hand in Rust, which gives its bytes, beside the port's lent buffer.
+    Name,
 }
 
 /// Each case: its name, its call, and the record.
-const CASES: [(&str, Call, Parts); 6] = [
+const CASES: [(&str, Call, Parts); 7] = [
     ("parse", Call::Parse, BLANK),
     ("text-short", Call::Text, SHORT),
     ("text-middle", Call::Text, MIDDLE),
     ("text-longest", Call::Text, LONGEST),
     ("order-early", Call::Order(7), MIDDLE),
     ("order-late", Call::Order(63), MIDDLE),
+    ("name", Call::Name, MIDDLE),
 ];
 
 /// The bytes of a case's record, and those of its second one.
@@ -87,6 +92,10 @@ fn port_order(a: &[u8; 64], b: &[u8; 64]) -> u32 {
     unsafe { probe_order(a.as_ptr(), 64, b.as_ptr(), 64) }
 }
 
+fn port_named(name: &[u8], out: &mut [u8; 64]) -> u64 {
+    unsafe { res_table_config_named(name.as_ptr(), name.len(), out.as_mut_ptr(), 64) }
+}
+
 /// Makes a call n times, and has the compiler believe that somebody looks at what it gives.
 fn times<A>(n: usize, mut call: impl FnMut() -> A) {
     for _ in 0..n {
@@ -98,25 +107,39 @@ fn times<A>(n: usize, mut call: impl FnMut() -> A) {
 fn rust_times(call: Call, parts: Parts, n: usize) {
     let (a, b) = bytes_of(call, parts);
     let blank = parse(&bytes_of(Call::Parse, BLANK).0);
+    let name = parse(&a).as_string();
     match call {
         Call::Parse => times(n, || parse(black_box(&a)) == blank),
         Call::Text => times(n, || parse(black_box(&a)).as_string()),
         Call::Order(_) => times(n, || parse(black_box(&a)).cmp(&parse(black_box(&b)))),
+        Call::Name => times(n, || named::read(black_box(name.as_bytes()))),
     }
 }
 
 /// Makes the port's call n times.
 fn port_times(call: Call, parts: Parts, n: usize) {
     let (a, b) = bytes_of(call, parts);
-    let mut out = [0u8; 344];
+    let (mut out, mut record) = ([0u8; 344], [0u8; 64]);
+    let name = parse(&a).as_string();
     match call {
         Call::Parse => times(n, || port_blank(black_box(&a))),
         Call::Text => times(n, || port_text(black_box(&a), black_box(&mut out))),
         Call::Order(_) => times(n, || port_order(black_box(&a), black_box(&b))),
+        Call::Name => times(n, || port_named(black_box(name.as_bytes()), black_box(&mut record))),
     }
 }
 
-/// Whether port and Rust answer a case alike: whether it is blank, its text, and the order both ways.
+/// Whether port and Rust read a name alike: the record, or 11 and the offset where it isn't one.
+fn same_named(name: &[u8]) -> bool {
+    let mut out = [0; 64];
+    let answer = port_named(name, &mut out);
+    match named::read(name) {
+        Ok(record) => answer == 64 && out == record,
+        Err(at) => answer == 11 << 32 | at as u64 && out == [0; 64],
+    }
+}
+
+/// Whether port and Rust answer a case alike: whether it is blank, its text, the order both ways, and the text read as a name.
 fn same(call: Call, parts: Parts) -> bool {
     let (a, b) = bytes_of(call, parts);
     let blank = parse(&bytes_of(Call::Parse, BLANK).0);
@@ -127,6 +150,7 @@ fn same(call: Call, parts: Parts) -> bool {
         && out[..written] == *parse(&a).as_string().as_bytes()
         && port_order(&a, &b) as i32 == order(&a, &b)
         && port_order(&b, &a) as i32 == order(&b, &a)
+        && same_named(parse(&a).as_string().as_bytes())
 }
 
 /// Does what the words say; 2 where they say nothing known, 1 where port and Rust differ.

@@ -1,18 +1,18 @@
 /*
- * Resource configuration records of Android packages, and the type chunks that hold them: ten calls on numbers and bytes, six
- * on records and four on chunks. Link libres_table_config.a, which `rt staticlib res_table_config` writes to target/staticlib/
- * (x86-64 Linux).
+ * Resource configuration records of Android packages, the directory names that stand for them, and the type chunks that hold them: eleven
+ * calls on numbers and bytes, six on records, one on names and four on chunks. Link libres_table_config.a, which
+ * `rt staticlib res_table_config` writes to target/staticlib/ (x86-64 Linux).
  *
  * Answers. Each call answers one number: a refusal's number in the upper 32 bits, 0 for a success. The lower 32 bits hold a
- * success's amount, or what the refusal carries: 2 carries the row of a field, the others carry 0. Refusals are tested in the order
- * 3, 1, 2 and 8, 4, 5, as far as each can come; 2 and 8 stand at one place, since at most one of them holds. On a chunk it is
- * 3, 1, 9, 10, then 1, 2 and 8 of the record in its header, 4, 5.
+ * success's amount, or what the refusal carries: 2 carries the row of a field, 11 an offset, the others carry 0. Refusals are tested in
+ * the order 3, 1, 2 and 8, 4, 5, as far as each can come; 2 and 8 stand at one place, since at most one of them holds. On a chunk it is
+ * 3, 1, 9, 10, then 1, 2 and 8 of the record in its header, 4, 5; on a name 11, 5.
  *
  * Buffers. A pointer and the length behind it name that many bytes, from one object, and the pointer isn't null, also where the
  * length is 0. A success writes from the front of out and leaves the bytes behind what it wrote as they were. A refusal writes
  * nothing. No text is longer than RES_TABLE_CONFIG_TEXT_MOST.
  *
- * Aliasing. out doesn't overlap bytes. The two records of res_table_config_order may overlap, or be the same. No call keeps a
+ * Aliasing. out doesn't overlap bytes or name. The two records of res_table_config_order may overlap, or be the same. No call keeps a
  * pointer or anything else, so calls on different buffers may run at the same time.
  */
 #ifndef RES_TABLE_CONFIG_H
@@ -25,7 +25,7 @@
 extern "C" {
 #endif
 
-/* Why a call is refused. The calls of this header give 1 to 5, and 8; those on chunks also 9 and 10. */
+/* Why a call is refused. The calls of this header give 1 to 5, and 8; those on chunks also 9 and 10, the one on names 11. */
 enum res_table_config_refusal {
     RES_TABLE_CONFIG_TOO_FEW_BYTES = 1,  /* fewer than the 16 bytes that a record has at the least, or than the 20 of a chunk's head */
     RES_TABLE_CONFIG_FIELD_CUT = 2,      /* 16 bytes or more, fewer than the record's size, and a field that the size holds ends past
@@ -38,16 +38,19 @@ enum res_table_config_refusal {
     RES_TABLE_CONFIG_UNDECODED_CUT = 8,  /* 16 bytes or more, fewer than the record's size, and every field that the size holds is
                                             there: only undecoded bytes are lacking */
     RES_TABLE_CONFIG_WRONG_TYPE = 9,     /* the chunk's type isn't 0x0201 */
-    RES_TABLE_CONFIG_WRONG_SIZES = 10    /* the chunk's header size is below 20 or above its chunk size, or that is above the bytes
+    RES_TABLE_CONFIG_WRONG_SIZES = 10,   /* the chunk's header size is below 20 or above its chunk size, or that is above the bytes
                                             given */
+    RES_TABLE_CONFIG_NOT_A_NAME = 11     /* the directory name isn't in the grammar: carries the offset of the first part that ends no
+                                            name */
 };
 
 /* How many bytes the longest text has, how many marks there are, how many fields, whose rows count from 0, and how many bytes
-   res_table_type_head writes. */
+   res_table_config_named and res_table_type_head write. */
 enum {
     RES_TABLE_CONFIG_TEXT_MOST = 344,
     RES_TABLE_CONFIG_MARKS = 14,
     RES_TABLE_CONFIG_FIELDS = 15,
+    RES_TABLE_CONFIG_NAMED_SIZE = 64,
     RES_TABLE_TYPE_HEAD = 10
 };
 
@@ -68,8 +71,8 @@ static inline uint32_t res_table_config_amount(uint64_t answer) {
     return res_table_config_number(answer) == 0 ? (uint32_t)(answer & 0xffffffffu) : 0;
 }
 
-/* What a refusal carries beside its number: the row of a cut field for RES_TABLE_CONFIG_FIELD_CUT, and 0 for the other refusals and
-   for a success. */
+/* What a refusal carries beside its number: the row of a cut field for RES_TABLE_CONFIG_FIELD_CUT, the offset of a part for
+   RES_TABLE_CONFIG_NOT_A_NAME, and 0 for the other refusals and for a success. */
 static inline uint32_t res_table_config_carried(uint64_t answer) {
     return res_table_config_number(answer) == 0 ? 0 : (uint32_t)(answer & 0xffffffffu);
 }
@@ -116,6 +119,24 @@ uint64_t res_table_config_marks(const uint8_t *bytes, size_t len, uint32_t age, 
 
 /* How the record at the front of a stands to the one at the front of b. Refusals 1, 2, 8 of a, then 1, 2, 8 of b. */
 uint64_t res_table_config_order(const uint8_t *a, size_t a_len, const uint8_t *b, size_t b_len);
+
+/*
+ * Directory names. A name, as en-rUS-port-hdpi, has no resource type in front. It is parts joined by single '-', in the order of a
+ * record's text and at most one of each kind; the empty name has none. Parts are the words of texts that carry no '=', and these, in
+ * which no number has a leading zero:
+ *
+ *   mccN mncN swNdp wNdp hNdp   N from 1 to 65535
+ *   en fil                      a language: two or three small letters, but not car, which is a UI type
+ *   rUS r419                    right behind a language, a region: r and two capitals or three digits
+ *   Ndpi                        N from 1 to 65535, where no word stands for that density
+ *   NxM                         each from 0 to 65535, not both 0
+ *   vN vN.M                     N from 0 to 65535, M from 1 to 65535; v0 only with a minor version
+ */
+
+/* Writes the 64 bytes of the record for which a name stands: its size is 64, everything that isn't named is zero, and its text is the
+   name again. The amount is 64. Refusals 11, 5. 11 carries the offset of the first part such that the name up to the part's end is
+   none: 5 in "hdpi-port", 3 in "en-" and in "en--port", 1 in "-en", since the empty name is one. No such offset is above 325. */
+uint64_t res_table_config_named(const uint8_t *name, size_t len, uint8_t *out, size_t cap);
 
 /*
  * Type chunks. A chunk begins with its type, 0x0201 (2 bytes), its header size (2) and its chunk size (4), all little-endian. Then

@@ -67,10 +67,15 @@ int wrote_bytes(uint64_t answer, const uint8_t *bytes, size_t count) {
     return holds;
 }
 
-int wrote(uint64_t answer, const char *word) {
+/* How many bytes a word has. */
+static size_t count(const char *word) {
     size_t n = 0;
     while (word[n]) n++;
-    return wrote_bytes(answer, (const uint8_t *)word, n);
+    return n;
+}
+
+int wrote(uint64_t answer, const char *word) {
+    return wrote_bytes(answer, (const uint8_t *)word, count(word));
 }
 
 void record(uint8_t *bytes, uint8_t size, size_t at, uint8_t byte) {
@@ -195,6 +200,60 @@ static void order(void) {
     ended("order");
 }
 
+/* What the call on a name answers that is lent so many bytes. */
+static uint64_t name(const char *word, size_t lent) {
+    return res_table_config_named((const uint8_t *)word, count(word), out, lent);
+}
+
+/* Whether a name is taken, and the text of its record is the name again. */
+static int back(const char *word) {
+    uint8_t bytes[64];
+    int holds = name(word, 64) == 64 && untouched(64);
+    for (size_t i = 0; i < 64; i++) bytes[i] = out[i];
+    fill();
+    return holds && res_table_config_take(bytes, 64) == 64 && wrote(res_table_config_text(bytes, 64, out, ROOM), word);
+}
+
+/* Names that are taken: each place alone, the corners of the numbers, and one of every place. */
+static const char *const NAMES[] = {
+    "mcc1", "mnc65535", "en", "fil", "en-rUS", "es-r419", "neuter", "ldrtl", "sw1dp", "w65535dp", "h720dp", "xlarge", "notlong", "round",
+    "widecg", "highdr", "land", "car", "vrheadset", "night", "hdpi", "nodpi", "161dpi", "65533dpi", "stylus", "keyssoft", "12key",
+    "navhidden", "wheel", "0x1", "65535x65535", "v33", "v0.1", "v65535.65535",
+    "mcc310-mnc4-en-rUS-masculine-ldltr-sw320dp-w320dp-h480dp-normal-long-notround-nowidecg-lowdr-port-watch-notnight-xxhdpi-notouch-"
+    "keysexposed-nokeys-navexposed-nonav-480x320-v33.1"};
+
+/* Names that are refused, and the offset of the first part that ends none. */
+static const struct {
+    const char *name;
+    uint32_t at;
+} NO_NAMES[] = {
+    /* no part */
+    {"-", 1}, {"-en", 1}, {"--", 1}, {"en-", 3}, {"en--port", 3}, {"land-", 5}, {"en-port-hdpi-", 13},
+    /* none that stands there */
+    {"rUS", 0}, {"port-rUS", 5}, {"en-port-rUS", 8}, {"hdpi-port", 5}, {"port-land", 5}, {"en-en", 3}, {"en-mcc310", 3},
+    /* none that stands anywhere */
+    {"x", 0}, {"EN", 0}, {"en-rus", 3}, {"b+en", 0}, {"mcc0", 0}, {"mcc01", 0}, {"mcc65536", 0}, {"240dpi", 0}, {"0dpi", 0}, {"0x0", 0},
+    {"480x", 0}, {"port-v0", 5}, {"v33.0", 0}, {"uiMode=9", 0}};
+
+static void named(void) {
+    uint8_t phone[64] = {0}, blank[64] = {64}, car[64] = {64}, long_name[1000];
+    for (size_t i = 0; i < 16; i++) phone[i] = PHONE[i];
+    phone[0] = 64, car[29] = 3;
+    CHECK(wrote_bytes(name(PHONE_TEXT, ROOM), phone, 64) && wrote_bytes(name(PHONE_TEXT, 64), phone, 64));
+    CHECK(wrote_bytes(name("", ROOM), blank, 64) && wrote_bytes(name("", RES_TABLE_CONFIG_NAMED_SIZE), blank, 64));
+    CHECK(wrote_bytes(name("car", 65), car, 64));
+    CHECK(refused(name(PHONE_TEXT, 63), RES_TABLE_CONFIG_SHORT_BUFFER) && refused(name(PHONE_TEXT, 0), RES_TABLE_CONFIG_SHORT_BUFFER));
+    CHECK(refused(name("", 63), RES_TABLE_CONFIG_SHORT_BUFFER) && refused(name("", 0), RES_TABLE_CONFIG_SHORT_BUFFER));
+    for (size_t i = 0; i < sizeof NAMES / sizeof *NAMES; i++) CHECK(back(NAMES[i]));
+    for (size_t i = 0; i < sizeof NO_NAMES / sizeof *NO_NAMES; i++) {
+        CHECK(carries(name(NO_NAMES[i].name, ROOM), RES_TABLE_CONFIG_NOT_A_NAME, NO_NAMES[i].at));
+        CHECK(carries(name(NO_NAMES[i].name, 0), RES_TABLE_CONFIG_NOT_A_NAME, NO_NAMES[i].at));
+    }
+    for (size_t i = 0; i < sizeof long_name; i++) long_name[i] = i % 3 == 2 ? '-' : 'e';
+    CHECK(carries(res_table_config_named(long_name, sizeof long_name, out, ROOM), RES_TABLE_CONFIG_NOT_A_NAME, 3));
+    ended("named");
+}
+
 /* Records that aren't whole, worked out by hand from 01's table: a size, how many bytes there are, the number and the row. */
 static const struct {
     uint8_t size, length;
@@ -244,7 +303,8 @@ static void header(void) {
     CHECK(res_table_config_number(answer) == RES_TABLE_CONFIG_TOO_MUCH_INPUT);
     CHECK(res_table_config_carried(answer) == 0xfffffff9u && res_table_config_amount(answer) == 0);
     CHECK(res_table_config_amount(0xfffffff9u) == 0xfffffff9u && res_table_config_carried(0xfffffff9u) == 0);
-    CHECK(RES_TABLE_CONFIG_UNREAD_FIELD == 6 && RES_TABLE_CONFIG_MARKS == 14 && RES_TABLE_TYPE_HEAD == 10);
+    CHECK(RES_TABLE_CONFIG_UNREAD_FIELD == 6 && RES_TABLE_CONFIG_NOT_A_NAME == 11);
+    CHECK(RES_TABLE_CONFIG_MARKS == 14 && RES_TABLE_CONFIG_NAMED_SIZE == 64 && RES_TABLE_TYPE_HEAD == 10);
     CHECK(same(res_table_config_field(0), "size") && same(res_table_config_field(8), "screen_size_dp"));
     CHECK(same(res_table_config_field(10), "locale_variant") && same(res_table_config_field(14), "end_padding"));
     CHECK(same(res_table_config_field(15), "") && same(res_table_config_field(0xffffffffu), ""));
@@ -259,6 +319,7 @@ int main(void) {
     replaced();
     marks();
     order();
+    named();
     cut();
     header();
     types();

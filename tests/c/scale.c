@@ -17,6 +17,9 @@ int memcmp(const void *a, const void *b, size_t count);
 long read(int file, void *to, size_t count);
 long write(int file, const void *from, size_t count);
 
+/* The call on names, as the header has it. */
+uint64_t res_table_config_named(const uint8_t *name, size_t len, uint8_t *out, size_t cap);
+
 /* What crates/test_probe and crates/test_probe_chunks export for this run. */
 uint64_t probe_first_line(const uint8_t *bytes, size_t len, uint32_t age, uint8_t *out, size_t cap);
 uint64_t probe_line(const uint8_t *bytes, size_t len, uint32_t age, size_t index, size_t offset, uint8_t *out, size_t cap);
@@ -37,6 +40,7 @@ size_t probe_chunk_read_next(const uint8_t *bytes, size_t len, size_t offset, ui
 enum {
     TAKE, TEXT, AGED_TEXT, REPLACED, MARKS, ORDER, FIRST_LINE, LINE, NEXT, WALK, RECORDS, WRITE, ROW, RECORD_LINE,
     TYPE_TAKE, TYPE_HEAD, TYPE_TEXT, TYPE_MARKS, CHUNK_STOP, CHUNK_END, CHUNKS, CHUNK_STEP, CHUNK_NEXT, CHUNK_READ, CHUNK_READ_NEXT,
+    NAMED,
     CALLS,
     END = 255
 };
@@ -171,6 +175,7 @@ static uint64_t call(const struct question *q, const uint8_t *a, const uint8_t *
     case WRITE: return probe_write(a, length, q->number, to, lent);
     case ROW: return probe_row(a, length, q->offset);
     case RECORD_LINE: return probe_record_line(a, length, q->number, q->index, q->offset, to, lent);
+    case NAMED: return res_table_config_named(a, length, to, lent);
     default: return call_on_chunks(q, a, to);
     }
 }

@@ -47,7 +47,22 @@ static const struct given GIVEN[] = {
 /* The newest age, one whose readers hold each of these records back, and a number that is no age. */
 static const uint32_t AGES[] = {64, 16, 33};
 
-/* The calls but for order, which takes two records. The amount of each, and whether it takes a chunk, an age and a buffer. */
+/* Names, and why each is refused, where it is: the empty one, one of every place, one whose numbers are as long as they can be, one whose last
+   part ends none, and one that is refused in front. */
+static const struct {
+    const char *name;
+    uint64_t refusal;
+} NAMES[] = {
+    {"", 0},
+    {"mcc310-mnc4-en-rUS-masculine-ldltr-sw320dp-w320dp-h480dp-normal-long-notround-nowidecg-lowdr-port-watch-notnight-xxhdpi-notouch-"
+     "keysexposed-nokeys-navexposed-nonav-480x320-v33.1",
+     0},
+    {"mcc65535-mnc65535-fil-r419-sw65535dp-w65535dp-h65535dp-65533dpi-65535x65535-v65535.65535", 0},
+    {"en-rUS-port-hdpi-480x320-v33.65536", REFUSED(RES_TABLE_CONFIG_NOT_A_NAME) + 25},
+    {"b+en", REFUSED(RES_TABLE_CONFIG_NOT_A_NAME)},
+};
+
+/* The calls but for order, which takes two records, and named, which takes a name. The amount of each, and whether it takes a chunk, an age and a buffer. */
 enum amount { TAKEN, TEXT, REPLACED, MARKS, HEAD };
 static const struct call {
     const char *name;
@@ -163,10 +178,33 @@ static void order(void) {
     printf("| `res_table_config_order` | %zu | | |\n", most);
 }
 
+/* Measures the call on every name that is lent so many bytes. */
+static void names(size_t room, size_t *most) {
+    for (size_t i = 0; i < sizeof NAMES / sizeof *NAMES; i++) {
+        size_t length = 0;
+        while (NAMES[i].name[length]) length++;
+        const uintptr_t words[5] = {(uintptr_t)NAMES[i].name, length, (uintptr_t)out, room};
+        uint64_t lent = room < RES_TABLE_CONFIG_NAMED_SIZE ? REFUSED(RES_TABLE_CONFIG_SHORT_BUFFER) : RES_TABLE_CONFIG_NAMED_SIZE;
+        uint64_t expected = NAMES[i].refusal ? NAMES[i].refusal : lent;
+        measure("res_table_config_named", (void (*)(void))res_table_config_named, words, expected, most);
+    }
+}
+
+/* Measures it with room for the record and more, with a byte less, and with none. */
+static void named(void) {
+    size_t room = 0, one_short = 0, empty = 0;
+    names(ROOM, &room);
+    names(RES_TABLE_CONFIG_NAMED_SIZE, &room);
+    names(RES_TABLE_CONFIG_NAMED_SIZE - 1, &one_short);
+    names(0, &empty);
+    printf("| `res_table_config_named` | %zu | %zu | %zu |\n", room, one_short, empty);
+}
+
 int main(void) {
     for (size_t i = 0; i < CALL_COUNT; i++)
         if (!CALLS[i].of_chunk) row(&CALLS[i]);
     order();
+    named();
     for (size_t i = 0; i < CALL_COUNT; i++)
         if (CALLS[i].of_chunk) row(&CALLS[i]);
     return failures != 0;

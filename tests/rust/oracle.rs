@@ -1,9 +1,13 @@
 //! The Rust side of the comparison: makes questions, answers them by 000, and compares the port's answers with its own.
 mod chunk;
+mod corners;
 mod cut;
+mod grammar;
 mod kinds;
 mod listed;
 mod listing;
+mod names;
+mod pattern;
 mod payloads;
 mod questions;
 mod records;
@@ -31,8 +35,8 @@ const USAGE: &str = "usage: oracle programs
        oracle listing
        oracle ask made SEED COUNT
        oracle ask mutated SEED SECONDS
-       oracle ask cut|chunk SEED
-       oracle check made|mutated|cut|chunk SEED";
+       oracle ask cut|chunk|name SEED
+       oracle check made|mutated|cut|chunk|name SEED";
 
 /// Does what the first word says; a failure is one message and status 1.
 fn main() -> ExitCode {
@@ -46,7 +50,7 @@ fn main() -> ExitCode {
         ["compare", program, questions, expected, got] => compare(program, questions, expected, got),
         ["listing"] => input().and_then(|bytes| write(&listed(&bytes)?)),
         ["runs", folder, count, seed] => runs(folder, count, seed),
-        ["ask", name @ ("cut" | "chunk"), seed] => scale::ask(name, seed, None),
+        ["ask", name @ ("cut" | "chunk" | "name"), seed] => scale::ask(name, seed, None),
         ["ask", name, seed, limit] => scale::ask(name, seed, Some(limit)),
         ["check", name, seed] => scale::check(name, seed),
         _ => Err(USAGE.into()),

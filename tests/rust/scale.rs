@@ -5,6 +5,7 @@ mod cuts;
 pub mod expected;
 pub mod inputs;
 mod mutations;
+mod names;
 mod tally;
 
 use crate::hex;
@@ -42,10 +43,11 @@ pub enum Call {
     ChunkNext,
     ChunkRead,
     ChunkReadNext,
+    Named,
 }
 
 /// The calls with their names.
-pub const CALLS: [(Call, &str); 25] = [
+pub const CALLS: [(Call, &str); 26] = [
     (Call::Take, "take"),
     (Call::Text, "text"),
     (Call::AgedText, "aged text"),
@@ -71,6 +73,7 @@ pub const CALLS: [(Call, &str); 25] = [
     (Call::ChunkNext, "step next"),
     (Call::ChunkRead, "chunk read"),
     (Call::ChunkReadNext, "read next"),
+    (Call::Named, "named"),
 ];
 
 /// A question: a call with what it is made with, and what it is to write.
@@ -197,11 +200,12 @@ fn source_of(name: &str, seed: &str) -> Result<Box<dyn Source>, String> {
         "mutated" => Ok(Box::new(mutations::Mutated::new(seed))),
         "cut" => Ok(Box::new(cuts::Cuts::new(seed))),
         "chunk" => Ok(Box::new(chunks::Chunks::new(seed))),
+        "name" => Ok(Box::new(names::Names::new(seed))),
         _ => Err(format!("no questions are called {name}")),
     }
 }
 
-/// Writes questions: so many that are made, for so many seconds those that are mutated, or all on records that are cut or on chunks.
+/// Writes questions: so many that are made, for so many seconds those that are mutated, or all on records that are cut, on chunks or on names.
 pub fn ask(name: &str, seed: &str, limit: Option<&str>) -> Result<(), String> {
     let mut source = source_of(name, seed)?;
     let limit = limit.map_or(Ok(u64::MAX), str::parse).map_err(|e| format!("the limit: {e}"))?;

@@ -1,8 +1,8 @@
-//! Android's resource configuration records, and the type chunks of a resource table that hold them, over the proved crate
-//! `res_table_config` (`include/res_table_config.h` is its C face).
+//! Android's resource configuration records, the directory names that stand for them, and the type chunks of a resource table that hold
+//! them, over the proved crate `res_table_config` (`include/res_table_config.h` is its C face).
 //!
-//! Ten functions on slices, six on records and four, which begin with `type_`, on type chunks. Each takes every input: what it can't do it
-//! refuses with a [`Refusal`], and a refusal writes nothing. Ages are plain numbers; twelve of them are ages.
+//! Eleven functions on slices, six on records, [`named`] on names and four, which begin with `type_`, on type chunks. Each takes every
+//! input: what it can't do it refuses with a [`Refusal`], and a refusal writes nothing. Ages are plain numbers; twelve of them are ages.
 //!
 //! ```
 //! let record = *b"\x10\0\0\0\x36\x01\0\0enUS\x01\0\xf0\0";
@@ -21,6 +21,9 @@ pub const TEXT_MOST: usize = 344;
 
 /// How many marks a record has: one for each field after its size.
 pub const MARKS: usize = 14;
+
+/// How many bytes the record has that [`named`] gives.
+pub const NAMED_SIZE: usize = 64;
 
 /// The names of a record's fields, in the order of their offsets. A field's place here is its row, which [`Refusal::FieldCut`]
 /// carries.
@@ -63,6 +66,9 @@ pub enum Refusal {
     WrongType,
     /// The chunk's header size is below 20 or above its chunk size, or that is above the bytes given.
     WrongSizes,
+    /// The directory name isn't in the grammar: the part at this offset is the first such that the name up to the part's end is none.
+    /// No such offset is above 325.
+    NotAName(usize),
     /// A field that isn't read at the record's size isn't zero.
     UnreadField,
     /// There are more than 65,536 bytes of input.
@@ -83,11 +89,12 @@ impl Refusal {
             8 => Refusal::UndecodedCut,
             9 => Refusal::WrongType,
             10 => Refusal::WrongSizes,
-            _ => unreachable!("the C face refuses with no other number than 1 to 10, not with {number}"),
+            11 => Refusal::NotAName(carried),
+            _ => unreachable!("the C face refuses with no other number than 1 to 11, not with {number}"),
         }
     }
 
-    /// The refusal's number, from 1 to 10.
+    /// The refusal's number, from 1 to 11.
     ///
     /// ```
     /// use res_table_config::Refusal;
@@ -107,11 +114,12 @@ impl Refusal {
             Refusal::UndecodedCut => 8,
             Refusal::WrongType => 9,
             Refusal::WrongSizes => 10,
+            Refusal::NotAName(_) => 11,
         }
     }
 }
 
-/// The refusal in words; of a cut field its row and its name.
+/// The refusal in words; of a cut field its row and its name, of a name the offset that it carries.
 ///
 /// ```
 /// use res_table_config::Refusal;
@@ -131,6 +139,7 @@ impl fmt::Display for Refusal {
             Refusal::ShortBuffer => "the buffer is too short",
             Refusal::WrongType => "the chunk's type isn't 0x0201",
             Refusal::WrongSizes => "the chunk's header size or chunk size can't be",
+            Refusal::NotAName(at) => return write!(f, "not a directory name: the part at {at} ends none"),
             Refusal::UnreadField => "a field that isn't read isn't zero",
             Refusal::TooMuchInput => "more than 65,536 bytes of input",
         })
@@ -147,6 +156,7 @@ mod face {
         pub fn res_table_config_replaced(bytes: *const u8, len: usize, age: u32) -> u64;
         pub fn res_table_config_marks(bytes: *const u8, len: usize, age: u32, out: *mut u8, cap: usize) -> u64;
         pub fn res_table_config_order(a: *const u8, a_len: usize, b: *const u8, b_len: usize) -> u64;
+        pub fn res_table_config_named(name: *const u8, len: usize, out: *mut u8, cap: usize) -> u64;
         pub fn res_table_type_take(bytes: *const u8, len: usize) -> u64;
         pub fn res_table_type_head(bytes: *const u8, len: usize, out: *mut u8, cap: usize) -> u64;
         pub fn res_table_type_aged_text(bytes: *const u8, len: usize, age: u32, out: *mut u8, cap: usize) -> u64;
@@ -264,6 +274,38 @@ pub fn order(a: &[u8], b: &[u8]) -> Result<Ordering, Refusal> {
     // SAFETY: pointers and lengths are those of two slices that live through the call.
     let answer = unsafe { face::res_table_config_order(a.as_ptr(), a.len(), b.as_ptr(), b.len()) };
     told(answer).map(|amount| amount.cmp(&1))
+}
+
+/// The record for which a directory name stands, as its bytes: its size is 64, everything that isn't named is zero, and its [`text`] is
+/// the name again.
+///
+/// A name has no resource type in front. It is parts joined by single `-`, in the order of a record's text and at most one of each kind;
+/// the empty name has none. Parts are the words of texts that carry no `=`, and these, in which no number has a leading zero:
+///
+/// | part | what it is |
+/// |---|---|
+/// | `mcc`N, `mnc`N, `sw`N`dp`, `w`N`dp`, `h`N`dp` | N from 1 to 65535 |
+/// | `en`, `fil` | a language: two or three small letters, but not `car`, which is a UI type |
+/// | `rUS`, `r419` | right behind a language, a region: `r` and two capitals or three digits |
+/// | N`dpi` | N from 1 to 65535, where no word stands for that density |
+/// | N`x`M | each from 0 to 65535, not both 0 |
+/// | `v`N, `v`N`.`M | N from 0 to 65535, M from 1 to 65535; `v0` only with a minor version |
+///
+/// Refuses with [`Refusal::NotAName`].
+///
+/// ```
+/// use res_table_config::{named, text, Refusal, TEXT_MOST};
+/// let record = named(b"en-rUS-port-hdpi")?;
+/// assert_eq!(record[..16], *b"\x40\0\0\0\0\0\0\0enUS\x01\0\xf0\0");
+/// assert_eq!(text(&record, &mut [0; TEXT_MOST]), Ok(&b"en-rUS-port-hdpi"[..]));
+/// assert_eq!(named(b"en-hdpi-port"), Err(Refusal::NotAName(8)));
+/// # Ok::<(), Refusal>(())
+/// ```
+pub fn named(name: &[u8]) -> Result<[u8; NAMED_SIZE], Refusal> {
+    let mut record = [0; NAMED_SIZE];
+    // SAFETY: as for text; the array is the call's own.
+    told(unsafe { face::res_table_config_named(name.as_ptr(), name.len(), record.as_mut_ptr(), NAMED_SIZE) })?;
+    Ok(record)
 }
 
 /// What the head of a type chunk says, as it is stored.

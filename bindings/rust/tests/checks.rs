@@ -9,7 +9,7 @@ mod arsc;
 mod list;
 
 use res_table_config::{aged_text, marks, order, replaced, take, text, Refusal, FIELDS, MARKS, TEXT_MOST};
-use res_table_config::{type_aged_text, type_head, type_marks, type_take, Head};
+use res_table_config::{named, type_aged_text, type_head, type_marks, type_take, Head, NAMED_SIZE};
 use std::cmp::Ordering;
 
 /// 01's listing: a phone's record, a blank one, and three bytes that are none.
@@ -118,6 +118,52 @@ fn orders() {
     assert_eq!(order(&mcc, &[]), Err(Refusal::TooFewBytes));
 }
 
+/// Names that are taken, and bytes of their records that aren't zero, by offset.
+const NAMES: [(&str, &[(usize, u8)]); 9] = [
+    ("", &[]),
+    ("mcc310-en-rUS-port-hdpi", &[(4, 54), (5, 1), (8, b'e'), (9, b'n'), (10, b'U'), (11, b'S'), (12, 1), (14, 240)]),
+    ("mcc65535-mnc1", &[(4, 255), (5, 255), (6, 1)]),
+    ("es-r419", &[(8, b'e'), (9, b's'), (10, 0xa4), (11, 0x24)]),
+    ("car-night", &[(29, 0x23)]),
+    ("sw600dp-w1dp-h65535dp", &[(30, 88), (31, 2), (32, 1), (34, 255), (35, 255)]),
+    ("161dpi", &[(14, 161)]),
+    ("0x65535-v0.1", &[(22, 255), (23, 255), (26, 1)]),
+    ("v33", &[(24, 33)]),
+];
+
+/// Names that are refused, and the offset of the first part that ends none.
+const NO_NAMES: [(&str, usize); 13] = [
+    ("-en", 1),
+    ("en-", 3),
+    ("en--port", 3),
+    ("hdpi-port", 5),
+    ("port-port", 5),
+    ("en-port-rUS", 8),
+    ("b+en", 0),
+    ("en-rus", 3),
+    ("mcc01", 0),
+    ("mnc65536", 0),
+    ("0x0", 0),
+    ("v0", 0),
+    ("caf\u{e9}", 0),
+];
+
+fn names() {
+    for (name, filled) in NAMES {
+        let mut record = [0; NAMED_SIZE];
+        record[0] = 64;
+        for (at, byte) in filled {
+            record[*at] = *byte;
+        }
+        assert_eq!(named(name.as_bytes()), Ok(record), "{name}");
+        assert_eq!(plain(&record, TEXT_MOST), Ok(name.as_bytes().to_vec()));
+    }
+    for (name, at) in NO_NAMES {
+        assert_eq!(named(name.as_bytes()), Err(Refusal::NotAName(at)), "{name}");
+    }
+    assert_eq!(named(&[b'-'; 70000]), Err(Refusal::NotAName(1)));
+}
+
 /// Records that aren't whole, worked out by hand from 01's table: a size, how many bytes there are, and the refusal.
 const CUTS: [(u8, usize, Refusal); 23] = [
     (17, 16, Refusal::UndecodedCut),
@@ -175,13 +221,15 @@ fn refusals() {
         Refusal::UndecodedCut,
         Refusal::WrongType,
         Refusal::WrongSizes,
+        Refusal::NotAName(5),
     ];
-    assert_eq!(all.map(Refusal::number), [1, 2, 3, 4, 5, 6, 7, 8, 9, 10]);
+    assert_eq!(all.map(Refusal::number), [1, 2, 3, 4, 5, 6, 7, 8, 9, 10, 11]);
     let why: Box<dyn std::error::Error> = Refusal::HeldBack.into();
     assert_eq!(why.to_string(), "held back: a byte past the age isn't zero");
     assert_eq!(Refusal::FieldCut(10).to_string(), "cut inside field 10, locale_variant");
     assert_eq!(Refusal::FieldCut(15).to_string(), "cut inside field 15, which no record has");
     assert_eq!(Refusal::UndecodedCut.to_string(), "no field is cut: only undecoded bytes are lacking");
+    assert_eq!(Refusal::NotAName(5).to_string(), "not a directory name: the part at 5 ends none");
     assert_eq!((FIELDS[0], FIELDS[8], FIELDS[14]), ("size", "screen_size_dp", "end_padding"));
 }
 
@@ -323,13 +371,14 @@ fn no_tables() {
     assert_eq!(ended, Err("at 84: fewer than the 8 bytes that every chunk begins with".into()));
 }
 
-const CHECKS: [(&str, fn()); 13] = [
+const CHECKS: [(&str, fn()); 14] = [
     ("take", takes),
     ("text", texts),
     ("aged text", aged_texts),
     ("replaced", all_replaced),
     ("marks", all_marks),
     ("order", orders),
+    ("names", names),
     ("cut", cuts),
     ("refusals", refusals),
     ("list", lists),

@@ -26,6 +26,8 @@ pub enum Refusal {
     WrongType,
     // A chunk's header is shorter than 20 bytes or longer than the chunk, or the chunk is longer than the bytes given.
     WrongSizes,
+    // A directory name isn't in the grammar: the part at this offset is the first that ends no name.
+    NotAName(usize),
 }
 
 // What an answer says in 01's numbers. A success has number 0 and an amount: the bytes taken or written, or what its answer enum says, as
@@ -70,6 +72,7 @@ impl Refusal {
             Self::UndecodedCut => 8,
             Self::WrongType => 9,
             Self::WrongSizes => 10,
+            Self::NotAName(_) => 11,
         }
     }
 
@@ -88,6 +91,7 @@ impl Refusal {
             Self::UndecodedCut => 0,
             Self::WrongType => 0,
             Self::WrongSizes => 0,
+            Self::NotAName(at) => at,
         }
     }
 

@@ -32,6 +32,7 @@ former Refusal.TooMuchInput = Refusal.TooMuchInput
 former Refusal.UndecodedCut = formerTwo
 former Refusal.WrongType = Refusal.WrongType
 former Refusal.WrongSizes = Refusal.WrongSizes
+former (Refusal.NotAName at) = Refusal.NotAName at
 
 -- what is lacking was 2
 former-lacking : (n size : ℕ) → former (lacking n size) ≡ formerTwo

@@ -37,7 +37,7 @@ fn put_shown_byte(b: u8, at: usize, out: &mut [u8]) -> usize
 }
 
 // Puts the bytes of a text.
-fn put_escaped(text: &[u8], at: usize, out: &mut [u8]) -> usize
+pub fn put_escaped(text: &[u8], at: usize, out: &mut [u8]) -> usize
     ensures { λ r. ⌜ Put (now (out .entry)) at (escapedAll (now (text .entry))) (now (out .exit)) r ⌝ }
 {
     let mut o = at;

@@ -8,6 +8,7 @@ use buffer::decimal_length;
 use buffer::put_between;
 use buffer::put_byte;
 use buffer::put_decimal;
+pub use escaping::put_escaped;
 use escaping::put_shown_text;
 use escaping::shown_fits;
 use marking::late_bytes;

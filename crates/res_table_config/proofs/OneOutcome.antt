@@ -12,7 +12,7 @@ use Rattle.res_table_config.proofs.Packing.{packed-is}
 pub one-answer : {t : Told} (r s : ℕ) → answerTells r ≡ t → answerTells s ≡ t → r ≡ s
 one-answer {t} r s p q = packed-is r t p ∙ sym (packed-is s t q)
 
--- of `res_table_config_text`, `res_table_config_aged_text`, `res_table_config_marks`, `res_table_type_head`,
+-- of `res_table_config_text`, `res_table_config_aged_text`, `res_table_config_marks`, `res_table_config_named`, `res_table_type_head`,
 -- `res_table_type_aged_text` and `res_table_type_marks`, whatever their outcome o is defined to be: the answer and the lent bytes are
 -- fixed
 pub one-outcome : {o : Outcome} (r s : ℕ) (x y : List ℕ) → answerOutcome r x ≡ o → answerOutcome s y ≡ o → (r ≡ s) × (x ≡ y)

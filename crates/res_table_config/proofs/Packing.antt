@@ -28,7 +28,7 @@ low-small : (t : Told) → Small t → lowOf t < 4294967296
 low-small t small = by (eqb (t .number) 0) where
   by : (b : Bool) → cond b (t .amount) (t .carried) < 4294967296
   by true = small .amount
-  by false = omega (arith, small .carried)
+  by false = small .carried
 
 -- what is told comes back from its packed number by / and % 2^32
 pub unpacked : (t : Told) → Small t → answerTells (packedOf t) ≡ t

@@ -1,10 +1,10 @@
 -- What the calls tell is small, so nothing of it is lost in an answer. Assumes nothing.
 use Prim.Native.Nat.{ℕ, _+_, _-_, _≤_, _<_}
-use mathlib.Core.Path.{refl, ap}
+use mathlib.Core.Path.{_≡_, refl, ap}
 use mathlib.Core.Bool.{not}
 use mathlib.Core.List.{List}
 use native.Mathlib.Omega.{arith}
-use lib.Dec.{eqb, leb, ltb, lit<, lit≤}
+use lib.Dec.{eqb, leb, ltb, lit<}
 use lib.ListN.{length, drop, length-take, length-append}
 use lib.Seq.{getD-take, getD-drop}
 use Rattle.answers.specs.declared.Refusal.{Refusal}
@@ -28,11 +28,17 @@ use Rattle.places.specs.Places.{textOf}
 use Rattle.text.specs.Counted.{replacementsOf}
 use Rattle.text.specs.Text.{plainText, agedText}
 use Rattle.text.proofs.Ranges.{part-below, plain-long, aged-long, aged-most}
+use Rattle.writing.specs.Writing.{bytesWritten}
+use Rattle.grammar.specs.Made.{made}
+use Rattle.names.specs.Reading.{Read, readName}
+use Rattle.names.specs.Named.{nameWritten}
+use Rattle.names.proofs.Exactly.{made-long}
+use Rattle.names.proofs.Offsets.{offset-small}
 use Rattle.chunk.specs.Chunk.{typeOf, headerSize, chunkSize, headShown, recordPart, wrongSizes, ifHead, ifChunk, chunkTake, headOutcome, chunkText, chunkMarks}
 use Rattle.res_table_config.specs.Face.{orderTold}
 use Rattle.res_table_config.specs.Small.{Small}
 
-refusal-small : (why : Refusal) → carriedBy why ≤ 14 → Small (refusal why)
+refusal-small : (why : Refusal) → carriedBy why < 4294967296 → Small (refusal why)
 refusal-small why h =
     record {
       number = omega (arith, number-most why);
@@ -43,10 +49,10 @@ refusal-small why h =
     }
 
 success-small : (n : ℕ) → n < 4294967296 → Small (success n)
-success-small n h = record { number = lit< tt; amount = h; bare = λ d. absurd (d refl); carried = lit≤ tt; clear = λ e. refl }
+success-small n h = record { number = lit< tt; amount = h; bare = λ d. absurd (d refl); carried = lit< tt; clear = λ e. refl }
 
 -- what holds of the refusals, and of what a whole record gives, holds of the call
-module _ {A : Type 0} (P : A → Type 0) (refuse : Refusal → A) (give : A) (bad : (why : Refusal) → carriedBy why ≤ 14 → P (refuse why)) where
+module _ {A : Type 0} (P : A → Type 0) (refuse : Refusal → A) (give : A) (bad : (why : Refusal) → carriedBy why < 4294967296 → P (refuse why)) where
   by-whole : (s : List ℕ) → (taken s ≤ length s → P give) → P (ifWhole s refuse give)
   by-whole s good =
       elim (taking s) [
@@ -59,12 +65,12 @@ module _ {A : Type 0} (P : A → Type 0) (refuse : Refusal → A) (give : A) (ba
   by-head : (s : List ℕ) → P give → P (ifHead s refuse give)
   unfolding ifHead
   by-head s good =
-      chosen P (ltb (length s) 20) (bad Refusal.TooFewBytes (lit≤ tt))
-      (chosen P (not (eqb (typeOf s) 0x0201)) (bad Refusal.WrongType (lit≤ tt)) (chosen P (wrongSizes s) (bad Refusal.WrongSizes (lit≤ tt)) good))
+      chosen P (ltb (length s) 20) (bad Refusal.TooFewBytes (lit< tt))
+      (chosen P (not (eqb (typeOf s) 0x0201)) (bad Refusal.WrongType (lit< tt)) (chosen P (wrongSizes s) (bad Refusal.WrongSizes (lit< tt)) good))
 
   by-age : (a : ℕ) → P give → P (ifAge a refuse give)
   unfolding ifAge
-  by-age a good = chosen P (isAge a) good (bad Refusal.NotAnAge (lit≤ tt))
+  by-age a good = chosen P (isAge a) good (bad Refusal.NotAnAge (lit< tt))
 
 -- what a call that writes tells
 abbrev Tells : Outcome → Type 0
@@ -73,7 +79,7 @@ Tells o = Small (o .tells)
 written-small : (w old : List ℕ) → length w < 4294967296 → Tells (written w old)
 unfolding written
 written-small w old h =
-    chosen Tells (leb (length w) (length old)) (success-small (length w) h) (refusal-small Refusal.ShortBuffer (lit≤ tt))
+    chosen Tells (leb (length w) (length old)) (success-small (length w) h) (refusal-small Refusal.ShortBuffer (lit< tt))
 
 -- of taking: size is a word of 32 bits
 pub take-small : (s : List ℕ) → Bytes s → Small (takeOf s)
@@ -90,14 +96,14 @@ pub aged-small : (a : ℕ) (s old : List ℕ) → Bytes s → Small (agedText a 
 aged-small a s old bytes =
     by-age Tells _ _ refusal-small a
     (by-whole Tells _ _ refusal-small s
-    (λ whole. chosen Tells (heldBack a s) (refusal-small Refusal.HeldBack (lit≤ tt)) (written-small (textOf (aged a s)) old (omega (arith, aged-long a s bytes)))))
+    (λ whole. chosen Tells (heldBack a s) (refusal-small Refusal.HeldBack (lit< tt)) (written-small (textOf (aged a s)) old (omega (arith, aged-long a s bytes)))))
 
 -- of the replacements in a text: there are 24 at the most
 pub replaced-small : (a : ℕ) (s : List ℕ) → Bytes s → Small (replacementsOf a s)
 replaced-small a s bytes =
     by-age Small _ _ refusal-small a
     (by-whole Small _ _ refusal-small s
-    (λ whole. chosen Small (heldBack a s) (refusal-small Refusal.HeldBack (lit≤ tt)) (success-small _ (omega (arith, aged-most a s bytes)))))
+    (λ whole. chosen Small (heldBack a s) (refusal-small Refusal.HeldBack (lit< tt)) (success-small _ (omega (arith, aged-most a s bytes)))))
 
 -- of marks: there are fourteen
 pub marks-small : (a : ℕ) (s old : List ℕ) → Small (marksOutcome a s old .tells)
@@ -116,8 +122,16 @@ order-small a b =
     by-whole Small _ _ refusal-small a
     (λ h. by-whole Small _ _ refusal-small b (λ g. success-small _ (ordering-most (orderOf (plain a) (plain b)))))
 
+-- of a name's record: it has 64 bytes, and no name is refused at an offset above 325
+pub named-small : (s old : List ℕ) → Small (nameWritten s old .tells)
+named-small s old = go (readName s) refl
+  where
+    go : (r : Read) → readName s ≡ r → Small (nameWritten s old .tells)
+    go (Read.so-far next vs) e = rw e (written-small (bytesWritten (made vs)) old (omega (arith, made-long vs)))
+    go (Read.refused o) e = rw e (refusal-small (Refusal.NotAName o) (omega (arith, offset-small s o e)))
+
 -- the same of a chunk
-by-chunk : {A : Type 0} (P : A → Type 0) (refuse : Refusal → A) (give : A) → ((why : Refusal) → carriedBy why ≤ 14 → P (refuse why))
+by-chunk : {A : Type 0} (P : A → Type 0) (refuse : Refusal → A) (give : A) → ((why : Refusal) → carriedBy why < 4294967296 → P (refuse why))
     → (s : List ℕ) → P give → P (ifChunk s refuse give)
 by-chunk P refuse give bad s good = by-head P refuse _ bad s (by-whole P refuse give bad (recordPart s) (λ whole. good))
 

@@ -1,15 +1,16 @@
-// The C face: ten calls on numbers and byte slices, for the intake tool: six on records, four on type chunks. A slice arrives as a
-// pointer and then a length.
+// The C face: eleven calls on numbers and byte slices, for the intake tool: six on records, one on directory names, four on type chunks. A
+// slice arrives as a pointer and then a length.
 //
 // Each answers one number: 01's number times 2^32, and the amount of a success or what a refusal carries. So a success is below 2^32,
-// and of the refusals 2 alone has more than its number: the row of the field that is cut. A refusal changes no lent byte. Ages arrive
-// as plain numbers.
+// and of these calls' refusals two have more than their number: 2 the row of the field that is cut, 11 the offset of a part. A refusal
+// changes no lent byte. Ages arrive as plain numbers.
 use answers::Told;
 use chunk::chunk_head;
 use chunk::chunk_marks;
 use chunk::chunk_text;
 use chunk::take_chunk;
 use marking::marks;
+use names::write_name;
 use order::cmp;
 use reading::parse;
 use reading::take;
@@ -20,6 +21,7 @@ use text::replacements;
 ghost use mathlib.Core.Path.{_≡_};
 ghost use Rattle.chunk.specs.Chunk.{chunkMarks, chunkTake, chunkText, headOutcome};
 ghost use Rattle.marking.specs.Marks.{marksOutcome};
+ghost use Rattle.names.specs.Named.{nameWritten};
 ghost use Rattle.reading.specs.Reading.{takeOf};
 ghost use Rattle.record.specs.Table.{Bytes};
 ghost use Rattle.text.specs.Counted.{replacementsOf};
@@ -112,6 +114,15 @@ pub extern "C" fn res_table_config_order(a: &[u8], b: &[u8]) -> u64
     let second = parsed_b.record;
     let order = cmp(first, second);
     order.number() as u64
+}
+
+// Writes the 64 bytes of the record for which a directory name stands.
+#[no_mangle]
+pub extern "C" fn res_table_config_named(name: &[u8], out: &mut [u8]) -> u64
+    ensures { λ r. ⌜ answerOutcome r (now (out .exit)) ≡ nameWritten (now (name .entry)) (now (out .entry)) ⌝ }
+{
+    let answer = write_name(name, out);
+    packed(answer.told())
 }
 
 // How far it is from the type chunk at the front of bytes to the next one.

@@ -1,14 +1,15 @@
 -- When the writer writes and when it refuses, and with which number. Assumes nothing.
 use Prim.Native.Nat.{ℕ, _≤_, _<_}
 use mathlib.Core.Path.{_≡_, refl, sym, ap, _∙_, subst}
-use mathlib.Core.Bool.{true, false}
+use mathlib.Core.Bool.{Bool, true, false, _||_}
 use mathlib.Core.List.{List, [], _∷_, _++_}
 use native.Mathlib.Omega.{arith}
 use lib.ListN.{length, drop, replicate, length-replicate}
 use lib.Seq.{drop-at}
-use borrow.Author.Tests.{not-false, ltb-false}
-use Rattle.laws.proofs.Tests.{or-neither}
-use Rattle.laws.proofs.Below.{each-spot, each-stop, each-at}
+use lib.Dec.{leb, ltb}
+use borrow.Author.Tests.{not-false, ltb-false, leb-true, le-leb}
+use Rattle.laws.proofs.Tests.{or-neither, or-right}
+use Rattle.laws.proofs.Below.{each-spot, each-stop, each-at, each-here, in-row}
 use Rattle.answers.specs.declared.Refusal.{Refusal}
 use Rattle.answers.specs.declared.Written.{Written}
 use Rattle.answers.proofs.Exactly.{Goes, one-unless}
@@ -16,7 +17,7 @@ use Rattle.buffer.specs.Written.{outcome, written, wrote, refused}
 use Rattle.buffer.specs.Demand1.{shorterThan}
 use Rattle.buffer.proofs.Writing.{written-fits, written-short}
 use Rattle.buffer.proofs.Exactly.{written-row, refuses-by}
-use Rattle.record.specs.Table.{allZero}
+use Rattle.record.specs.Table.{allZero, endOf}
 use Rattle.record.specs.declared.ResTableConfig.{ResTableConfig}
 use Rattle.reading.specs.Reading.{reads}
 use Rattle.record.specs.Shape.{Shaped}
@@ -66,6 +67,18 @@ untidy r w = each-stop 15 (keeps r) (w .field) (w .within) (rw (w .skipped) (w .
 -- a record isn't tidy exactly when a field that isn't read isn't zero
 pub stray-exactly : (r : ResTableConfig) → UntidyWhenStray r
 stray-exactly r = (stray r, untidy r)
+
+-- where the first of two tests holds, one does
+or-left : (a b : Bool) → a ≡ true → a || b ≡ true
+or-left a b e = rw e
+
+-- a record of 64 bytes or more has every field read
+pub whole-tidy : (r : ResTableConfig) → 64 ≤ span r → true ≡ tidy r
+unfolding tidy reads
+whole-tidy r h =
+    sym (each-here 15 (keeps r) (λ f l.
+    let e = leb-true (endOf f) 64 (in-row 15 (λ f. leb (endOf f) 64) tt f l) in
+    or-left (ltb f 4 || leb (endOf f) (r .size)) _ (or-right (ltb f 4) (le-leb (endOf f) (r .size) (omega arith)))))
 
 -- in a tidy record a field that isn't read is zero
 pub unread-zero : (r : ResTableConfig) → tidy r ≡ true → (f : ℕ) → f < 15 → reads (r .size) f ≡ false → allZero (bytesOf r f) ≡ true

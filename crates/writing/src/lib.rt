@@ -118,11 +118,14 @@ fn field_of(r: ResTableConfig, f: usize) -> [u8; 8]
     }
 }
 
-// Whether every field that isn't read in t bytes is zero.
+// Whether every field that isn't read in t bytes is zero; in 64 bytes all are read.
 fn is_tidy(r: ResTableConfig, t: usize) -> bool
     requires { ⌜ t ≡ span r ⌝ }
     ensures { λ b. ⌜ b ≡ tidy r ⌝ }
 {
+    if 64 <= t {
+        return true;
+    }
     let starts = STARTS;
     let ends = ENDS;
     let mut f: usize = 0;

@@ -2,6 +2,7 @@
 use super::{Call, Question};
 use crate::chunk::{chunk, chunk_at};
 use crate::cut::{self, Refused, ENDS};
+use crate::grammar::named;
 use crate::listed::{held_back, marks, put_age_line, put_record_line, put_stop_line, taken, MOST};
 use crate::records::{fields, written};
 use crate::replaced::{held_in_record, in_record};
@@ -81,8 +82,17 @@ pub fn wanted(call: Call, number: u32, index: u64, offset: u64, bytes: &[u8]) ->
         Call::TypeText => in_chunk(Call::AgedText, number, bytes),
         Call::TypeMarks => in_chunk(Call::Marks, number, bytes),
         Call::ChunkStep | Call::ChunkRead => Ok(stepped(bytes, offset, number).record),
+        Call::Named => of_name(bytes),
         _ => Ok(vec![]),
     }
+}
+
+/// The record of a name, or 11 with the offset of a part. 000's text of the record must be the name again.
+fn of_name(name: &[u8]) -> Wanted {
+    let record = named(name).map_err(|at| Refused { number: 11, carried: at as u64 })?;
+    let text = whole(&record)?.0.as_string();
+    assert!(text.as_bytes() == name, "the rule's record of {:?} has the text {text}", String::from_utf8_lossy(name));
+    Ok(record.to_vec())
 }
 
 /// Whether a call writes to lent bytes.

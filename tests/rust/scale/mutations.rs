@@ -1,8 +1,9 @@
-//! Questions on mutations of records as files have them: each that is mutated goes to every call, to those on chunks in a chunk around it.
+//! Questions on mutations of records as files have them: each that is mutated goes to every call, to those on chunks in a chunk around it, and to the one on
+//! names as its text.
 use super::chunks::around;
 use super::inputs::question;
 use super::{Call, Question, Source, CALLS};
-use crate::listed::MOST;
+use crate::listed::{taken, MOST};
 use crate::payloads::{declare, one, ENDS};
 use crate::questions::Random;
 use crate::spellings::real;
@@ -140,6 +141,17 @@ impl Mutated {
         }
         bytes
     }
+
+    /// The text that 000 gives to the record that was mutated, itself mutated one in four times; what isn't whole is its own text.
+    fn text(&mut self) -> Vec<u8> {
+        let text = taken(&self.bytes).map(|(record, _)| record.as_string().into_bytes());
+        let mut text = text.unwrap_or_else(|| self.bytes.clone());
+        if self.random.below(4) == 0 {
+            let mutation = one(&mut self.random, &[flip, set, truncate, insert, append]);
+            mutation(&mut self.random, &mut text, &self.kept);
+        }
+        text
+    }
 }
 
 impl Source for Mutated {
@@ -159,7 +171,11 @@ impl Source for Mutated {
             Call::Order => self.kept[self.random.below(KEPT)].clone(),
             _ => vec![],
         };
-        let first = if (call as usize) < Call::TypeTake as usize { self.bytes.clone() } else { self.in_chunk() };
+        let first = match call {
+            Call::Named => self.text(),
+            call if (call as usize) < Call::TypeTake as usize => self.bytes.clone(),
+            _ => self.in_chunk(),
+        };
         Some(question(&mut self.random, self.sort, call, first, second))
     }
 }

@@ -4,7 +4,7 @@ use super::{inputs::ROOMS, Question, CALLS};
 use crate::cut::FIELDS;
 
 /// What the numbers of 01 and 02 mean.
-const NUMBERS: [&str; 11] = [
+const NUMBERS: [&str; 12] = [
     "0 success",
     "1 too few bytes",
     "2 field cut",
@@ -16,6 +16,7 @@ const NUMBERS: [&str; 11] = [
     "8 undecoded cut",
     "9 wrong type",
     "10 wrong sizes",
+    "11 not a name",
 ];
 
 /// The first row that a cut field can have: the four before it are in the sixteen bytes without which there is no record.
@@ -90,22 +91,23 @@ impl Tally {
         (0..CALLS.len()).filter(|call| self.numbers.rows.iter().any(|(_, counts)| counts[*call] > 0)).collect()
     }
 
-    /// Prints what was counted. It fails where another number of questions was asked, where one of some numbers or one of the fields has
-    /// none, and where no text has replacements.
+    /// Prints what was counted. It fails where another number of questions was asked, and where one of some numbers has none; if 2 is among
+    /// these, also where one of the fields has none, and where no text has replacements.
     pub fn ended(&self, asked: u64, numbers: &[usize]) -> Result<(), String> {
         if asked != self.count {
             return Err(format!("{asked} questions were asked and {} answered", self.count));
         }
         let made = self.made();
-        for table in [&self.sorts, &self.rooms, &self.numbers, &self.cut, &self.replacements] {
-            table.print(&made);
-        }
-        let rows = numbers.iter().map(|number| &self.numbers.rows[*number]).chain(&self.cut.rows);
-        if let Some((missing, _)) = rows.into_iter().find(|(_, counts)| counts.iter().sum::<u64>() == 0) {
+        let (on_any, on_records) = ([&self.sorts, &self.rooms, &self.numbers], [&self.cut, &self.replacements]);
+        let on_records = if numbers.contains(&2) { &on_records[..] } else { &[] };
+        on_any.iter().chain(on_records).for_each(|table| table.print(&made));
+        let rows = numbers.iter().map(|number| &self.numbers.rows[*number]);
+        let fields = on_records.first().map_or(&[][..], |cut| &cut.rows);
+        if let Some((missing, _)) = rows.chain(fields).find(|(_, counts)| counts.iter().sum::<u64>() == 0) {
             return Err(format!("no question came to {missing}"));
         }
         let replaced: u64 = self.replacements.rows[1..].iter().flat_map(|(_, counts)| counts).sum();
-        if replaced == 0 {
+        if replaced == 0 && !on_records.is_empty() {
             return Err("no text has replacements".into());
         }
         println!(

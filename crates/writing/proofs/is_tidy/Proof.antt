@@ -9,6 +9,7 @@ use Rattle.reading.proofs.Limits.{start-end}
 use Rattle.laws.specs.Below.{eachBelow}
 use Rattle.laws.proofs.Below.{each-none, each-more, each-stop}
 use Rattle.writing.specs.Writing.{span, keeps, tidy}
+use Rattle.writing.proofs.Answers.{whole-tidy}
 use Rattle.writing.proofs.Held.{held-is, zero-is, neither-is}
 use Rattle.writing.proofs.is_tidy.Statement.{statement}
 use Rattle.writing.proofs.is_tidy.Tie as tie
@@ -20,7 +21,7 @@ abbrev μ-loop : tie.MeasureT-loop
 μ-loop r t starts ends f₀ f = 15 - f
 
 loop-holds : tie.Need-loop-holds Inv-loop μ-loop
-loop-holds c = (omega arith, c .pre, each-none (keeps (c .args .r)))
+loop-holds c = let start = c .before in (omega arith, start .pre, each-none (keeps (start .args .r)))
 
 sub-late-bytes : tie.Need-sub-late-bytes Inv-loop μ-loop
 sub-late-bytes c =
@@ -30,25 +31,25 @@ sub-late-bytes c =
     let h : l .f < 15 = omega arith in
     omega (arith, start-end (l .f) h)
 
-returns : tie.Need-returns Inv-loop μ-loop
+returns-2 : tie.Need-returns-2 Inv-loop μ-loop
 unfolding tidy
-returns c =
+returns-2 c =
     let late-bytes = c .before in
     let field-of = late-bytes .before .before in
-    let if1 = field-of .before in
-    let loop = if1 .before .before in
-    let start = loop .before in
+    let if2 = field-of .before in
+    let loop = if2 .before .before in
+    let start = loop .before .before in
     let r = start .args .r in
     let l = loop .loop in
     let h : l .f < 15 = omega arith in
     sym (each-stop 15 (keeps r) (l .f) h
     (neither-is r _ (l .f) (l .inv .1) h _ (field-of .field-of .ensures) _ (late-bytes .late-bytes .ensures)
-    (omega (arith, if1 .if1 .taken)) (c .if2 .taken)))
+    (omega (arith, if2 .if2 .taken)) (c .if3 .taken)))
 
 loop-again : tie.Need-loop-again Inv-loop μ-loop
 loop-again c =
     let loop = c .before .before in
-    let start = loop .before in
+    let start = loop .before .before in
     let r = start .args .r in
     let l = loop .loop in
     let h : l .f < 15 = omega arith in (
@@ -56,14 +57,14 @@ loop-again c =
       l .inv .1,
       each-more (keeps r) (l .f) (l .inv .2)
           (⊎-elim (λ w. zero-is r _ (l .f) (l .inv .1) h _ (w .1 .ensures) _ (w .3 .ensures) (w .4 .left))
-          (λ w. held-is r _ (l .f) (l .inv .1) h (omega (arith, w .left))) (c .if1 .came)),
+          (λ w. held-is r _ (l .f) (l .inv .1) h (omega (arith, w .left))) (c .if2 .came)),
     )
 
-returns-2 : tie.Need-returns-2 Inv-loop μ-loop
+returns-3 : tie.Need-returns-3 Inv-loop μ-loop
 unfolding tidy
-returns-2 c =
+returns-3 c =
     let loop = c .before in
-    let start = loop .before in
+    let start = loop .before .before in
     let r = start .args .r in
     let l = loop .loop in
     let e : l .f ≡ 15 = omega arith in
@@ -75,6 +76,7 @@ is-tidy-spec =
     (tie.spec
     Inv-loop
     μ-loop
+    (λ c. whole-tidy _ (omega (arith, c .before .pre, c .if1 .taken)))
     loop-holds
     (λ c. search needs)
     (λ c. search needs)
@@ -84,8 +86,8 @@ is-tidy-spec =
     (λ c. search needs)
     sub-late-bytes
     (λ c κs. search needs)
-    returns
+    returns-2
     (λ c. search needs)
     (λ c. search needs)
     loop-again
-    returns-2)
+    returns-3)

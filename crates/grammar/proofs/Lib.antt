@@ -1,0 +1,11 @@
+pub mod Listed
+pub mod Sized
+pub mod Said
+pub mod Masks
+pub mod Bits
+pub mod Letters
+pub mod Placed
+pub mod Plain
+pub mod Fits
+pub mod Gathered
+pub mod Text

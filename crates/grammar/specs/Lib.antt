@@ -1,0 +1,6 @@
+pub mod Claims
+pub mod Forms
+pub mod Slots
+pub mod Rows
+pub mod Names
+pub mod Made

@@ -1,0 +1,11 @@
+pub mod Accepted
+pub mod Again
+pub mod Answers
+pub mod Exact
+pub mod Exactly
+pub mod Examples
+pub mod Offset
+pub mod Offsets
+pub mod OneOutcome
+pub mod Reading
+pub mod Words

@@ -1,0 +1,4 @@
+pub mod Claims
+pub mod Demand1
+pub mod Named
+pub mod Reading

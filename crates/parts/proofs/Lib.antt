@@ -1,0 +1,3 @@
+pub mod Gives
+pub mod Beginning
+pub mod Chain
