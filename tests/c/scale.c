@@ -17,9 +17,6 @@ int memcmp(const void *a, const void *b, size_t count);
 long read(int file, void *to, size_t count);
 long write(int file, const void *from, size_t count);
 
-/* The call on names, as the header has it. */
-uint64_t res_table_config_named(const uint8_t *name, size_t len, uint8_t *out, size_t cap);
-
 /* What crates/test_probe and crates/test_probe_chunks export for this run. */
 uint64_t probe_first_line(const uint8_t *bytes, size_t len, uint32_t age, uint8_t *out, size_t cap);
 uint64_t probe_line(const uint8_t *bytes, size_t len, uint32_t age, size_t index, size_t offset, uint8_t *out, size_t cap);
