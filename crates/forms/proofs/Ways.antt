@@ -12,7 +12,7 @@ use Rattle.kinds.specs.Screen.{densityOf}
 use Rattle.compare.specs.Compare.{same, beginsWith, upTo}
 use Rattle.numbers.specs.Numbers.{numberIn}
 use Rattle.numbers.proofs.Numbers.{number-empty}
-use Rattle.forms.specs.Values.{proper, numberBefore, numberValue, unnamed, densityValue, paired, pairValue, minorValue}
+use Rattle.forms.specs.Values.{proper, numberBefore, numberValue, unnamed, densityValue, twoNumbers, pairValue, minorValue}
 
 pub before-short : (back s : List ℕ) → length s < length back → 0 ≡ numberBefore back s
 unfolding numberBefore
@@ -45,10 +45,10 @@ pair-not b s h =
     let e = number-empty (drop (upTo b s + 1) s) (length-drop (upTo b s + 1) s ∙ omega arith) in
     rw (← e) (lost (numberIn (take (upTo b s) s)))
   where
-    lost : (n : ℕ) → 0 ≡ paired n 65536
+    lost : (n : ℕ) → 0 ≡ twoNumbers n 65536
     lost n = none-here (leb n 65535) (n + 65536 * 65536)
 
-pub pair-is : (b : ℕ) (s : List ℕ) → paired (numberIn (take (upTo b s) s)) (numberIn (drop (upTo b s + 1) s)) ≡ pairValue b s
+pub pair-is : (b : ℕ) (s : List ℕ) → twoNumbers (numberIn (take (upTo b s) s)) (numberIn (drop (upTo b s + 1) s)) ≡ pairValue b s
 unfolding pairValue
 pair-is b s = refl
 

@@ -42,12 +42,12 @@ unfoldable pub densityValue : List ℕ → ℕ
 densityValue s = unnamed (densityOf (numberValue [] (ascii "dpi") s))
 
 -- two numbers of 16 bits as one of 32, or 0
-abbrev pub paired : ℕ → ℕ → ℕ
-paired n m = cond (leb n 65535 && leb m 65535) (n + m * 65536) 0
+abbrev pub twoNumbers : ℕ → ℕ → ℕ
+twoNumbers n m = cond (leb n 65535 && leb m 65535) (n + m * 65536) 0
 
 -- two numbers with the byte b between them
 unfoldable pub pairValue : ℕ → List ℕ → ℕ
-pairValue b s = paired (numberIn (take (upTo b s) s)) (numberIn (drop (upTo b s + 1) s))
+pairValue b s = twoNumbers (numberIn (take (upTo b s) s)) (numberIn (drop (upTo b s + 1) s))
 
 -- both sides in pixels
 abbrev pub sidesValue : List ℕ → ℕ

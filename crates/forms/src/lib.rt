@@ -5,7 +5,7 @@ use compare::up_to;
 use kinds::Density;
 use numbers::number_in;
 ghost use mathlib.Core.Path.{_≡_};
-ghost use Rattle.forms.specs.Values.{proper, numberBefore, numberValue, unnamed, densityValue, paired, pairValue, sidesValue, minorValue};
+ghost use Rattle.forms.specs.Values.{proper, numberBefore, numberValue, unnamed, densityValue, twoNumbers, pairValue, sidesValue, minorValue};
 
 // A number of 16 bits, or 0.
 fn proper(n: u32) -> u32
@@ -73,8 +73,8 @@ pub fn density_value(s: &[u8]) -> u32
 }
 
 // Two numbers of 16 bits as one of 32, or 0.
-fn paired(n: u32, m: u32) -> u32
-    ensures { λ r. ⌜ r ≡ paired n m ⌝ }
+fn two_numbers(n: u32, m: u32) -> u32
+    ensures { λ r. ⌜ r ≡ twoNumbers n m ⌝ }
 {
     if 65535 < n {
         return 0;
@@ -94,7 +94,7 @@ fn pair_value(s: &[u8], b: u8) -> u32
         return 0;
     }
     let a = k + 1;
-    paired(number_in(&s[..k]), number_in(&s[a..]))
+    two_numbers(number_in(&s[..k]), number_in(&s[a..]))
 }
 
 // Both sides in pixels.

@@ -8,7 +8,7 @@ use lib.ListN.{set, length, length-set}
 use lib.Seq.{getD-set-same, getD-set-other}
 use Rattle.places.specs.Say.{Place}
 use Rattle.grammar.specs.Rows.{Has}
-use Rattle.grammar.specs.Names.{Part, Follows, Rising, bytesOf, valuesAfter}
+use Rattle.grammar.specs.Names.{Part, Follows, Rising, partBytes, valuesAfter}
 use Rattle.grammar.specs.Made.{at}
 use Rattle.grammar.specs.Slots as slot
 use Rattle.grammar.proofs.Sized.{sized}
@@ -39,7 +39,7 @@ later-still (Follows.later {next = next} {s = s} f l) h = let k : suc next ≤ s
 
 -- what is said of the slots from next on, where nothing stands yet, is what rising parts put there
 pub gathered : (n next : ℕ) (ps : List Part) (vs : List ℕ) → next + n ≡ slot.slots → Rising next ps → length vs ≡ slot.slots
-    → ((s : ℕ) → next ≤ s → at vs s ≡ 0) → saidWords (slotsFrom next n (valuesAfter vs ps)) ≡ bytesOf ps
+    → ((s : ℕ) → next ≤ s → at vs s ≡ 0) → saidWords (slotsFrom next n (valuesAfter vs ps)) ≡ partBytes ps
 unfolding slotsFrom saidWords
 gathered zero next [] vs e r l z = refl
 gathered zero next (p ∷ ps) vs e (Rising.then f r) l z = absurd (omega (arith, follows-le f, sized (p .has) .placed))

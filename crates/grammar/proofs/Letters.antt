@@ -7,7 +7,7 @@ use Rattle.subtag.specs.Subtag.{subtagOf}
 use Rattle.subtag.proofs.Letters.{low-alone}
 use Rattle.language.specs.Language.{unpacked}
 use Rattle.language.proofs.Unpacked.{two-is, three-is}
-use Rattle.grammar.specs.Forms.{Within, plain, packed}
+use Rattle.grammar.specs.Forms.{Within, letterPair, packed}
 
 -- the text of a value's two bytes
 abbrev pub lettersOf : ℕ → ℕ → List ℕ
@@ -27,7 +27,7 @@ letter : (b : ℕ) → 1 ≤ b → b ≤ 127 → subtagOf (b ∷ []) ≡ b ∷ [
 letter b h k = low-alone b h (omega arith) .0
 
 -- two letters
-pub two-back : (base : ℕ) {lo hi : ℕ} (a b : ℕ) → 1 ≤ lo → hi ≤ 127 → Within lo hi a → Within lo hi b → Holds base (plain a b) (a ∷ b ∷ [])
+pub two-back : (base : ℕ) {lo hi : ℕ} (a b : ℕ) → 1 ≤ lo → hi ≤ 127 → Within lo hi a → Within lo hi b → Holds base (letterPair a b) (a ∷ b ∷ [])
 two-back base a b n m h k =
     let e = bytes-of a b (omega arith) in
     record {

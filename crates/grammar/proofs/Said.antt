@@ -8,7 +8,7 @@ use lib.ListN.{length}
 use Rattle.laws.proofs.Lists.{Each}
 use Rattle.buffer.specs.Ascii.{ascii}
 use Rattle.places.specs.Say.{Place, dashAfter, say, sayAll}
-use Rattle.grammar.specs.Names.{joined}
+use Rattle.grammar.specs.Names.{withDashes}
 
 -- the words of those places that are said
 unfoldable pub saidWords : List Place → List (List ℕ)
@@ -21,24 +21,24 @@ abbrev pub Filled : List (List ℕ) → Type 0
 Filled ws = Each (λ w. 1 ≤ length w) ws
 
 -- two words that a dash joins are as good as one
-glue : (u w : List ℕ) (ws : List (List ℕ)) → joined ((u ++ (ascii "-" ++ w)) ∷ ws) ≡ joined (u ∷ w ∷ ws)
-unfolding joined
+glue : (u w : List ℕ) (ws : List (List ℕ)) → withDashes ((u ++ (ascii "-" ++ w)) ∷ ws) ≡ withDashes (u ∷ w ∷ ws)
+unfolding withDashes
 glue u w [] = refl
-glue u w (v ∷ ws) = append-assoc u (ascii "-" ++ w) (ascii "-" ++ joined (v ∷ ws))
+glue u w (v ∷ ws) = append-assoc u (ascii "-" ++ w) (ascii "-" ++ withDashes (v ∷ ws))
 
 -- a text that isn't empty goes on with a dash
-tail-said : (ps : List Place) (b : ℕ) (t : List ℕ) → sayAll (b ∷ t) ps ≡ joined ((b ∷ t) ∷ saidWords ps)
-unfolding sayAll say dashAfter saidWords joined
+tail-said : (ps : List Place) (b : ℕ) (t : List ℕ) → sayAll (b ∷ t) ps ≡ withDashes ((b ∷ t) ∷ saidWords ps)
+unfolding sayAll say dashAfter saidWords withDashes
 tail-said [] b t = refl
 tail-said ((false, w) ∷ ps) b t = tail-said ps b t
 tail-said ((true, w) ∷ ps) b t =
     tail-said ps b ((t ++ ascii "-") ++ w)
-    ∙ ap (λ (l : List ℕ). joined ((b ∷ l) ∷ saidWords ps)) (append-assoc t (ascii "-") w)
+    ∙ ap (λ (l : List ℕ). withDashes ((b ∷ l) ∷ saidWords ps)) (append-assoc t (ascii "-") w)
     ∙ glue (b ∷ t) w (saidWords ps)
 
 -- the text is the said words joined
-pub text-said : (ps : List Place) → Filled (saidWords ps) → sayAll [] ps ≡ joined (saidWords ps)
-unfolding sayAll say dashAfter saidWords joined
+pub text-said : (ps : List Place) → Filled (saidWords ps) → sayAll [] ps ≡ withDashes (saidWords ps)
+unfolding sayAll say dashAfter saidWords withDashes
 text-said [] f = refl
 text-said ((false, w) ∷ ps) f = text-said ps f
 text-said ((true, []) ∷ ps) f = absurd (omega (arith, f .0))

@@ -13,7 +13,7 @@ use Rattle.record.specs.declared.ResTableConfig.{ResTableConfig}
 use Rattle.locale.specs.Locale.{localeSaid, localeWords, legacyWords, behind}
 use Rattle.places.specs.Say.{Place, dashAfter, say, sayAll}
 use Rattle.places.specs.Places.{some, placesOf, textOf}
-use Rattle.grammar.specs.Names.{Part, Rising, Named, joined, bytesOf, valuesAfter, unnamedValues}
+use Rattle.grammar.specs.Names.{Part, Rising, Named, withDashes, partBytes, valuesAfter, unnamedValues}
 use Rattle.grammar.specs.Made.{at, word, made}
 use Rattle.grammar.specs.Slots as slot
 use Rattle.grammar.proofs.Sized.{sized}
@@ -117,7 +117,7 @@ text-slots vs fit h =
     ∙ one-as-two _ (some (l % 256)) (some (g % 256)) (lettersOf 97 l) (lettersOf 48 g) (slotsFrom slot.gender 21 vs) (λ e. held-said l (h (some-low g e)))
 
 -- no part is empty
-filled : (ps : List Part) → Filled (bytesOf ps)
+filled : (ps : List Part) → Filled (partBytes ps)
 filled [] = tt
 filled (p ∷ ps) = (sized (p .has) .some, filled ps)
 
@@ -135,13 +135,13 @@ unnamed-fits : (s : ℕ) → Fits s (at unnamedValues s)
 unnamed-fits s = rw (unnamed s) (record { whole = zero-mod _; small = omega arith })
 
 -- the text of the record that rising parts make is their bytes, joined
-parts-again : (ps : List Part) → Rising 0 ps → textOf (made (valuesAfter unnamedValues ps)) ≡ joined (bytesOf ps)
+parts-again : (ps : List Part) → Rising 0 ps → textOf (made (valuesAfter unnamedValues ps)) ≡ withDashes (partBytes ps)
 parts-again ps r =
     let vs = valuesAfter unnamedValues ps in
     let none : Led unnamedValues = λ h. absurd (omega (arith, unnamed slot.region)) in
     let l = led ps 0 unnamedValues r refl none (λ e. absurd (omega arith)) in
     let e = gathered slot.slots 0 ps unnamedValues refl r refl (λ s h. unnamed s) in
-    text-slots vs (values-fit ps unnamedValues unnamed-fits) l ∙ text-said (slotsFrom 0 slot.slots vs) (rw e (filled ps)) ∙ ap joined e
+    text-slots vs (values-fit ps unnamedValues unnamed-fits) l ∙ text-said (slotsFrom 0 slot.slots vs) (rw e (filled ps)) ∙ ap withDashes e
 
 -- the text of a name's record is the name again
 pub name-again : (s : List ℕ) (r : ResTableConfig) → Named s r → textOf r ≡ s

@@ -14,8 +14,8 @@ pub record Within (lo hi n : ℕ) : Type 0 where
   pub high : n ≤ hi
 
 -- two letters, as the two bytes of a language or a region
-abbrev pub plain : ℕ → ℕ → ℕ
-plain a b = a + b * 256
+abbrev pub letterPair : ℕ → ℕ → ℕ
+letterPair a b = a + b * 256
 
 -- three letters, counted from base, of five bits each; the high bit of the first byte is set
 abbrev pub packed : ℕ → ℕ → ℕ → ℕ → ℕ
@@ -38,8 +38,8 @@ pub data Makes : Form → ℕ → List ℕ → Type 0 where
   density : {n : ℕ} → Within 1 65535 n → densityOf n ≡ Density.Unknown n → Makes Form.density n (decimal n ++ ascii "dpi")
   sides : {n m : ℕ} → Within 0 65535 n → Within 0 65535 m → 1 ≤ n + m → Makes Form.sides (n + m * 65536) (decimal n ++ (ascii "x" ++ decimal m))
   minor : {n m : ℕ} → Within 0 65535 n → Within 1 65535 m → Makes Form.minor (n + m * 65536) (ascii "v" ++ (decimal n ++ (ascii "." ++ decimal m)))
-  two-letters : {a b : ℕ} → Within 97 122 a → Within 97 122 b → Makes Form.language (plain a b) (a ∷ b ∷ [])
+  two-letters : {a b : ℕ} → Within 97 122 a → Within 97 122 b → Makes Form.language (letterPair a b) (a ∷ b ∷ [])
   three-letters : {a b c : ℕ} → Within 97 122 a → Within 97 122 b → Within 97 122 c → (a ∷ b ∷ c ∷ [] ≡ ascii "car" → ⊥) → Makes Form.language (packed 97 a b c) (a ∷ b ∷ c ∷ [])
-  two-capitals : {a b : ℕ} → Within 65 90 a → Within 65 90 b → Makes Form.region (plain a b) (ascii "r" ++ (a ∷ b ∷ []))
+  two-capitals : {a b : ℕ} → Within 65 90 a → Within 65 90 b → Makes Form.region (letterPair a b) (ascii "r" ++ (a ∷ b ∷ []))
   three-digits : {a b c : ℕ} → Within 48 57 a → Within 48 57 b → Within 48 57 c → Makes Form.region (packed 48 a b c) (ascii "r" ++ (a ∷ b ∷ c ∷ []))
   word : {v : ℕ} {w : List ℕ} → Makes (Form.word v w) v w

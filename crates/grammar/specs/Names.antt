@@ -27,15 +27,15 @@ pub data Rising : ℕ → List Part → Type 0 where
   then : {next : ℕ} {p : Part} {ps : List Part} → Follows next (p .slot) → Rising (suc (p .slot)) ps → Rising next (p ∷ ps)
 
 -- words joined by dashes
-unfoldable pub joined : List (List ℕ) → List ℕ
-joined [] = []
-joined (w ∷ []) = w
-joined (w ∷ v ∷ ws) = w ++ (ascii "-" ++ joined (v ∷ ws))
+unfoldable pub withDashes : List (List ℕ) → List ℕ
+withDashes [] = []
+withDashes (w ∷ []) = w
+withDashes (w ∷ v ∷ ws) = w ++ (ascii "-" ++ withDashes (v ∷ ws))
 
 -- the bytes of parts
-abbrev pub bytesOf : List Part → List (List ℕ)
-bytesOf [] = []
-bytesOf (p ∷ ps) = p .bytes ∷ bytesOf ps
+abbrev pub partBytes : List Part → List (List ℕ)
+partBytes [] = []
+partBytes (p ∷ ps) = p .bytes ∷ partBytes ps
 
 -- the values of the slots, after parts have put theirs
 abbrev pub valuesAfter : List ℕ → List Part → List ℕ
@@ -50,5 +50,5 @@ unnamedValues = replicate slot.slots 0
 pub record Named (s : List ℕ) (r : ResTableConfig) : Type 0 where
   pub parts : List Part
   pub rising : Rising 0 parts
-  pub bytes : s ≡ joined (bytesOf parts)
+  pub bytes : s ≡ withDashes (partBytes parts)
   pub stands : r ≡ made (valuesAfter unnamedValues parts)

@@ -14,7 +14,7 @@ use Rattle.laws.proofs.Tests.{and-both}
 use Rattle.buffer.specs.Ascii.{ascii}
 use Rattle.compare.specs.Compare.{same}
 use Rattle.compare.proofs.Compare.{same-false, same-refl}
-use Rattle.grammar.specs.Forms.{Within, plain, packed, Form, Makes}
+use Rattle.grammar.specs.Forms.{Within, letterPair, packed, Form, Makes}
 use Rattle.letters.specs.Letters.{within, two, three, languageValue, regionValue}
 
 -- a byte that passes the test is one of lo to hi
@@ -26,7 +26,7 @@ within-holds : {lo hi a : ℕ} → Within lo hi a → within lo hi a ≡ true
 within-holds {lo} {hi} {a} w = rw (le-leb lo a (w .low), le-leb a hi (w .high))
 
 -- two bytes of lo to hi have the value of two letters
-pub two-forth : {lo hi a b : ℕ} → Within lo hi a → Within lo hi b → two lo hi a b ≡ plain a b
+pub two-forth : {lo hi a b : ℕ} → Within lo hi a → Within lo hi b → two lo hi a b ≡ letterPair a b
 two-forth {lo} {hi} {a} {b} p q = rw (within-holds p, within-holds q)
 
 -- three have that of three
@@ -42,12 +42,12 @@ put-by false n v e h = absurd (omega arith)
 record Two (lo hi a b v : ℕ) : Type 0 where
   first : Within lo hi a
   second : Within lo hi b
-  puts : plain a b ≡ v
+  puts : letterPair a b ≡ v
 
 -- two bytes with a value are such
 two-back : (lo hi a b v : ℕ) → two lo hi a b ≡ v → 1 ≤ v → Two lo hi a b v
 two-back lo hi a b v e h =
-    let p = put-by (within lo hi a && within lo hi b) (plain a b) v e h in
+    let p = put-by (within lo hi a && within lo hi b) (letterPair a b) v e h in
     let q = and-both (p .0) in
     record { first = within-says lo hi a (q .0); second = within-says lo hi b (q .1); puts = p .1 }
 

@@ -5,7 +5,7 @@ use mathlib.Core.Bool.{Bool, cond, _&&_}
 use lib.Dec.{leb, eqb}
 use Rattle.buffer.specs.Ascii.{ascii}
 use Rattle.compare.specs.Compare.{same}
-use Rattle.grammar.specs.Forms.{plain, packed}
+use Rattle.grammar.specs.Forms.{letterPair, packed}
 
 -- whether a byte is one of lo to hi
 abbrev pub within : ℕ → ℕ → ℕ → Bool
@@ -13,7 +13,7 @@ within lo hi a = leb lo a && leb a hi
 
 -- two bytes of lo to hi
 abbrev pub two : ℕ → ℕ → ℕ → ℕ → ℕ
-two lo hi a b = cond (within lo hi a && within lo hi b) (plain a b) 0
+two lo hi a b = cond (within lo hi a && within lo hi b) (letterPair a b) 0
 
 -- three of them
 abbrev pub three : ℕ → ℕ → ℕ → ℕ → ℕ → ℕ

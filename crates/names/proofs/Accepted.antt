@@ -14,12 +14,12 @@ use Rattle.record.specs.declared.ResTableConfig.{ResTableConfig}
 use Rattle.reading.specs.Reading.{ParseOutcome, parseTook}
 use Rattle.grammar.specs.Slots as slot
 use Rattle.grammar.specs.Made.{made}
-use Rattle.grammar.specs.Names.{Part, Follows, Rising, joined, bytesOf, valuesAfter, unnamedValues, Named}
+use Rattle.grammar.specs.Names.{Part, Follows, Rising, withDashes, partBytes, valuesAfter, unnamedValues, Named}
 use Rattle.grammar.proofs.Sized.{NoDash, sized}
 use Rattle.compare.specs.Compare.{upTo}
 use Rattle.compare.proofs.Compare.{up-past}
 use Rattle.parts.specs.declared.Found.{Found}
-use Rattle.parts.specs.Recognised.{recognised, found}
+use Rattle.parts.specs.Recognised.{recognised, inSlot}
 use Rattle.names.specs.Reading.{inFirst, partsOf, Read, may, readParts, start, readName}
 use Rattle.names.specs.Named.{nameOf}
 use Rattle.names.specs.Claims.{AcceptedExactly, OneRecord}
@@ -39,7 +39,7 @@ may-follow next f e =
     both s next e f = rw (e, f) Follows.region
 
 -- and what follows may stand there
-follow-may : (next s v : ℕ) → 1 ≤ v → Follows next s → may next (found s v) ≡ true
+follow-may : (next s v : ℕ) → 1 ≤ v → Follows next s → may next (inSlot s v) ≡ true
 unfolding may
 follow-may next s v h Follows.region = rw (ne-eqb v 0 (λ e. omega arith))
 follow-may next s v h (Follows.later f l) = rw (ne-eqb v 0 (λ e. omega arith), ne-eqb s slot.region f, le-leb next s l)
@@ -62,7 +62,7 @@ not-both e g = let z : _≡_ {A = ℕ} 0 1 = ap mark (sym (g .is) ∙ e) in absu
 record Parts (next : ℕ) (vs : List ℕ) (ps : List (List ℕ)) (ws : List ℕ) : Type 0 where
   parts : List Part
   rising : Rising next parts
-  bytes : ps ≡ bytesOf parts
+  bytes : ps ≡ partBytes parts
   values : ws ≡ valuesAfter vs parts
 
 -- the values that were read
@@ -98,24 +98,24 @@ record Comes (r : Read) (ws : List ℕ) : Type 0 where
   is : r ≡ Read.so-far next ws
 
 -- the grammar's parts are read to the end
-read-complete : (cs : List Part) (next : ℕ) (vs : List ℕ) (at : ℕ) → Rising next cs → Comes (readParts (Read.so-far next vs) at (bytesOf cs)) (valuesAfter vs cs)
+read-complete : (cs : List Part) (next : ℕ) (vs : List ℕ) (at : ℕ) → Rising next cs → Comes (readParts (Read.so-far next vs) at (partBytes cs)) (valuesAfter vs cs)
 unfolding readParts
 read-complete [] next vs at r = record { next = next; is = refl }
 read-complete (c ∷ cs) next vs at (Rising.then f r) =
     let g = complete (c .has) in
     let m : may next (recognised (c .bytes)) ≡ true = rw g (follow-may next (c .slot) (c .value) (sized (c .has) .valued) f) in
     let z = step-taken next vs at (c .bytes) m in
-    rw (read-more (Read.so-far next vs) at (c .bytes) (bytesOf cs), z, g) (read-complete cs (suc (c .slot)) (set vs (c .slot) (c .value)) (at + length (c .bytes) + 1) r)
+    rw (read-more (Read.so-far next vs) at (c .bytes) (partBytes cs), z, g) (read-complete cs (suc (c .slot)) (set vs (c .slot) (c .value)) (at + length (c .bytes) + 1) r)
 
 -- a byte in front of joined parts
-joined-first : (b : ℕ) (ws : List (List ℕ)) → joined (inFirst b ws) ≡ b ∷ joined ws
-unfolding joined
+joined-first : (b : ℕ) (ws : List (List ℕ)) → withDashes (inFirst b ws) ≡ b ∷ withDashes ws
+unfolding withDashes
 joined-first b [] = refl
 joined-first b (w ∷ []) = refl
 joined-first b (w ∷ v ∷ ws) = refl
 
-joined-dash : (ws : List (List ℕ)) → (ws ≡ [] → ⊥) → joined ([] ∷ ws) ≡ 45 ∷ joined ws
-unfolding joined
+joined-dash : (ws : List (List ℕ)) → (ws ≡ [] → ⊥) → withDashes ([] ∷ ws) ≡ 45 ∷ withDashes ws
+unfolding withDashes
 joined-dash [] h = absurd (h refl)
 joined-dash (w ∷ ws) h = refl
 
@@ -131,11 +131,11 @@ parts-some (b ∷ s) =
     some (w ∷ ws) e = omega (arith, ap length e)
 
 -- a name is its parts, joined
-pub joined-parts : (s : List ℕ) → joined (partsOf s) ≡ s
-unfolding partsOf joined
+pub joined-parts : (s : List ℕ) → withDashes (partsOf s) ≡ s
+unfolding partsOf withDashes
 joined-parts [] = refl
 joined-parts (b ∷ s) =
-    chosen-by (λ (x : List (List ℕ)). joined x ≡ b ∷ s) (eqb b 45)
+    chosen-by (λ (x : List (List ℕ)). withDashes x ≡ b ∷ s) (eqb b 45)
     (λ t. joined-dash (partsOf s) (parts-some s) ∙ rw (joined-parts s, ← eqb-true b 45 t))
     (λ t. joined-first b (partsOf s) ∙ rw (joined-parts s))
 
@@ -160,23 +160,23 @@ AllPlain [] = Unit {0}
 AllPlain (w ∷ ws) = (upTo 45 w ≡ length w) × AllPlain ws
 
 -- come apart again, when they are joined
-pub apart : (w : List ℕ) (ws : List (List ℕ)) → AllPlain (w ∷ ws) → partsOf (joined (w ∷ ws)) ≡ w ∷ ws
-unfolding joined
+pub apart : (w : List ℕ) (ws : List (List ℕ)) → AllPlain (w ∷ ws) → partsOf (withDashes (w ∷ ws)) ≡ w ∷ ws
+unfolding withDashes
 apart w [] a = parts-last w (omega (arith, a .0))
 apart w (v ∷ ws) a =
-    let t = joined (v ∷ ws) in
+    let t = withDashes (v ∷ ws) in
     let u = up-dash w t (a .0) in
     parts-first (w ++ 45 ∷ t) (omega (arith, u, length-append w (45 ∷ t)))
     ∙ rw (u, take-append-seam w (45 ∷ t), behind-dash w t, apart v ws (a .1))
 
 -- the grammar's parts have none
-plain-parts : (cs : List Part) → AllPlain (bytesOf cs)
+plain-parts : (cs : List Part) → AllPlain (partBytes cs)
 plain-parts [] = tt
 plain-parts (c ∷ cs) = (no-dash-up (c .bytes) (sized (c .has) .undashed), plain-parts cs)
 
 -- what is joined begins as its first part does
-first-joined : (w : List ℕ) (ws : List (List ℕ)) → 1 ≤ length w → (1 ≤ length (joined (w ∷ ws))) × (getD (joined (w ∷ ws)) 0 0 ≡ getD w 0 0)
-unfolding joined
+first-joined : (w : List ℕ) (ws : List (List ℕ)) → 1 ≤ length w → (1 ≤ length (withDashes (w ∷ ws))) × (getD (withDashes (w ∷ ws)) 0 0 ≡ getD w 0 0)
+unfolding withDashes
 first-joined [] ws h = absurd (omega arith)
 first-joined (a ∷ w) [] h = (omega arith, refl)
 first-joined (a ∷ w) (v ∷ ws) h = (omega arith, refl)
@@ -186,28 +186,28 @@ first-plain [] h n = λ e. omega arith
 first-plain (a ∷ w) h n = n .0
 
 -- a name of the grammar is read to the end
-accepted-by : (cs : List Part) → Rising 0 cs → Comes (readName (joined (bytesOf cs))) (valuesAfter unnamedValues cs)
-unfolding joined readName
+accepted-by : (cs : List Part) → Rising 0 cs → Comes (readName (withDashes (partBytes cs))) (valuesAfter unnamedValues cs)
+unfolding withDashes readName
 accepted-by [] r = record { next = 0; is = refl }
 accepted-by (c ∷ cs) r =
-    let s = joined (bytesOf (c ∷ cs)) in
+    let s = withDashes (partBytes (c ∷ cs)) in
     let z = sized (c .has) in
-    let f = first-joined (c .bytes) (bytesOf cs) (z .some) in
-    let e : readName s ≡ readParts start 0 (bytesOf (c ∷ cs)) =
+    let f = first-joined (c .bytes) (partBytes cs) (z .some) in
+    let e : readName s ≡ readParts start 0 (partBytes (c ∷ cs)) =
     read-all s (λ g. omega (arith, f .0)) (λ g. first-plain (c .bytes) (z .some) (z .undashed) (sym (f .1) ∙ g))
-    ∙ ap (readParts start 0) (apart (c .bytes) (bytesOf cs) (plain-parts (c ∷ cs))) in
+    ∙ ap (readParts start 0) (apart (c .bytes) (partBytes cs) (plain-parts (c ∷ cs))) in
     rw e (read-complete (c ∷ cs) 0 unnamedValues 0 r)
 
 -- what is read to the end is a name of the grammar
 pub read-named : (s : List ℕ) (n : ℕ) (vs : List ℕ) → readName s ≡ Read.so-far n vs → Named s (made vs)
-unfolding readName joined
+unfolding readName withDashes
 read-named [] n vs = λ h. record { parts = []; rising = Rising.end; bytes = refl; stands = ap (λ (r : Read). made (valuesIn r)) (sym h) }
 read-named (b ∷ s) n vs =
     chosen-by (λ (x : Read). x ≡ Read.so-far n vs → Named (b ∷ s) (made vs)) (eqb b 45)
     (λ t g. not-both refl (record { next = n; values = vs; is = g }))
     (λ t g.
     let r = read-sound (partsOf (b ∷ s)) 0 unnamedValues 0 n vs g in
-    record { parts = r .parts; rising = r .rising; bytes = sym (joined-parts (b ∷ s)) ∙ ap joined (r .bytes); stands = ap made (r .values) })
+    record { parts = r .parts; rising = r .rising; bytes = sym (joined-parts (b ∷ s)) ∙ ap withDashes (r .bytes); stands = ap made (r .values) })
 
 -- a name of the grammar gives its record
 pub named-read : (s : List ℕ) (r : ResTableConfig) → Named s r → nameOf s ≡ parseTook (length s) r

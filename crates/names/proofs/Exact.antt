@@ -28,7 +28,7 @@ use Rattle.letters.proofs.Letters.{language-short, language-not, language-forth
 use Rattle.forms.specs.Values.{numberValue, numberBefore, densityValue, pairValue, minorValue}
 use Rattle.forms.proofs.Values.{between-back, up-decimal, no-x, no-dot}
 use Rattle.parts.specs.declared.Found.{Found}
-use Rattle.parts.specs.Recognised.{valueIn, found, firstOf, recognised}
+use Rattle.parts.specs.Recognised.{valueIn, inSlot, firstOf, recognised}
 use Rattle.parts.specs.Beginning.{headOf, beginning}
 use Rattle.parts.proofs.Gives.{gives, makes}
 use Rattle.parts.proofs.Beginning.{recognised-by, recognised-language, head-digit, head-front}
@@ -49,14 +49,14 @@ sound s = first-has rows s (λ p f i. i)
 
 -- the first of the rows that begin as a part does
 first-row : (k p : ℕ) (f : Form) (rs : List Row) {v : ℕ} {w : List ℕ} → beginning k rows ≡ (p, f) ∷ rs → Makes f v w → 1 ≤ v → languageValue w ≡ 0 → headOf w ≡ k
-    → recognised w ≡ found p v
+    → recognised w ≡ inSlot p v
 unfolding firstOf
 first-row k p f rs {v} {w} e m n l h =
     sym (recognised-by k w l h) ∙ ap (λ (q : List Row). firstOf q w) e ∙ rw (gives m, ne-eqb v 0 (λ z. omega arith))
 
 -- the second, where the first gives no value
 second-row : (k q : ℕ) (g : Form) (p : ℕ) (f : Form) (rs : List Row) {v : ℕ} {w : List ℕ} → beginning k rows ≡ (q, g) ∷ (p, f) ∷ rs → valueIn g w ≡ 0 → Makes f v w
-    → 1 ≤ v → languageValue w ≡ 0 → headOf w ≡ k → recognised w ≡ found p v
+    → 1 ≤ v → languageValue w ≡ 0 → headOf w ≡ k → recognised w ≡ inSlot p v
 unfolding firstOf
 second-row k q g p f rs {v} {w} e z m n l h =
     sym (recognised-by k w l h) ∙ ap (λ (q : List Row). firstOf q w) e ∙ rw (z, gives m, ne-eqb v 0 (λ z. omega arith))
@@ -134,7 +134,7 @@ no-density n m = rw (no-dpi n m)
 
 -- a row's parts are recognised as its own
 abbrev Own : Row → Type 0
-Own r = (v : ℕ) (w : List ℕ) → Makes (r .1) v w → 1 ≤ v → recognised w ≡ found (r .0) v
+Own r = (v : ℕ) (w : List ℕ) → Makes (r .1) v w → 1 ≤ v → recognised w ≡ inSlot (r .0) v
 
 -- a number between two words that are three bytes or more together, where its row is the first that begins so
 number-own : (k p : ℕ) (front back : List ℕ) (rs : List Row) → beginning k rows ≡ (p, Form.number front back) ∷ rs → 3 ≤ length front + length back → headOf front ≡ k
@@ -207,7 +207,7 @@ all-rightly : passes rightly kindRows ≡ true
 unfolding rightly kindRows wordRows wordRow recognised firstOf rows valueIn numberValue beginsWith numberBefore numberIn furtherAll further same densityValue pairValue upTo minorValue languageValue regionValue
 all-rightly = refl
 
-found-is : (f : Found) (s v : ℕ) → f .slot ≡ s → f .value ≡ v → f ≡ found s v
+found-is : (f : Found) (s v : ℕ) → f .slot ≡ s → f .value ≡ v → f ≡ inSlot s v
 found-is f s v e g = rw (← e, ← g)
 
 -- so the words' rows
@@ -244,5 +244,5 @@ row-own s f i = go (in-one (s, f) openRows kindRows i)
     go (_⊎_.inr j) = word-own s f (row-passes rightly s f kindRows all-rightly j)
 
 -- and each part is recognised
-pub complete : {s v : ℕ} {w : List ℕ} → Has s v w → recognised w ≡ found s v
+pub complete : {s v : ℕ} {w : List ℕ} → Has s v w → recognised w ≡ inSlot s v
 complete {s} {v} {w} h = row-own s (h .form) (h .listed) v w (h .makes) (sized h .valued)

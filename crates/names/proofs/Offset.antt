@@ -11,7 +11,7 @@ use Rattle.laws.proofs.Choice.{chosen-by}
 use Rattle.answers.specs.declared.Refusal.{Refusal}
 use Rattle.reading.specs.Reading.{ParseOutcome, parseRefused}
 use Rattle.compare.specs.Compare.{upTo}
-use Rattle.grammar.specs.Names.{joined}
+use Rattle.grammar.specs.Names.{withDashes}
 use Rattle.grammar.specs.Made.{made}
 use Rattle.parts.specs.Recognised.{recognised}
 use Rattle.names.specs.Reading.{inFirst, partsOf, Read, may, step, readParts, start, readName}
@@ -105,15 +105,15 @@ plain-left [] rs a = tt
 plain-left (q ∷ qs) rs a = (a .0, plain-left qs rs (a .1))
 
 -- what begins with a byte that is no dash is read as its parts
-first-byte : (b : ℕ) (w : List ℕ) (ws : List (List ℕ)) → (getD (joined ((b ∷ w) ∷ ws)) 0 0 ≡ b) × (length (joined ((b ∷ w) ∷ ws)) ≡ 0 → ⊥)
-unfolding joined
+first-byte : (b : ℕ) (w : List ℕ) (ws : List (List ℕ)) → (getD (withDashes ((b ∷ w) ∷ ws)) 0 0 ≡ b) × (length (withDashes ((b ∷ w) ∷ ws)) ≡ 0 → ⊥)
+unfolding withDashes
 first-byte b w [] = (refl, λ e. omega arith)
 first-byte b w (v ∷ ws) = (refl, λ e. omega arith)
 
-begun : (b : ℕ) (w : List ℕ) (ws : List (List ℕ)) → (b ≡ 45 → ⊥) → AllPlain ((b ∷ w) ∷ ws) → readName (joined ((b ∷ w) ∷ ws)) ≡ readParts start 0 ((b ∷ w) ∷ ws)
+begun : (b : ℕ) (w : List ℕ) (ws : List (List ℕ)) → (b ≡ 45 → ⊥) → AllPlain ((b ∷ w) ∷ ws) → readName (withDashes ((b ∷ w) ∷ ws)) ≡ readParts start 0 ((b ∷ w) ∷ ws)
 begun b w ws h a =
     let f = first-byte b w ws in
-    read-all (joined ((b ∷ w) ∷ ws)) (f .1) (λ e. h (sym (f .0) ∙ e)) ∙ ap (readParts start 0) (apart (b ∷ w) ws a)
+    read-all (withDashes ((b ∷ w) ∷ ws)) (f .1) (λ e. h (sym (f .0) ∙ e)) ∙ ap (readParts start 0) (apart (b ∷ w) ws a)
 
 -- the first part of a name that begins with no dash
 record Head (b : ℕ) (ps : List (List ℕ)) : Type 0 where
@@ -131,8 +131,8 @@ head-of b s e = rw e (go (partsOf s))
 
 -- a beginning of such a name's parts is the empty name, or is read as its parts
 begun-left : (b : ℕ) (qs rs : List (List ℕ)) (w : List ℕ) (ws : List (List ℕ)) → (b ≡ 45 → ⊥) → qs ++ rs ≡ (b ∷ w) ∷ ws → AllPlain (qs ++ rs)
-    → readName (joined qs) ≡ readParts start 0 qs
-unfolding joined readName readParts
+    → readName (withDashes qs) ≡ readParts start 0 qs
+unfolding withDashes readName readParts
 begun-left b [] rs w ws h e a = refl
 begun-left b (q ∷ qs) rs w ws h e a =
     let z : q ≡ b ∷ w = ap (λ (l : List (List ℕ)). getD l 0 []) e in
@@ -170,24 +170,24 @@ undashed b s o e h =
       after = k .after;
       parts = k .parts;
       offset = k .offset ∙ omega arith;
-      ends = not-in-grammar (joined upto) o (begun-left b upto (k .after) (d .word) (d .rest) n whole plain ∙ k .ends);
+      ends = not-in-grammar (withDashes upto) o (begun-left b upto (k .after) (d .word) (d .rest) n whole plain ∙ k .ends);
       first = λ qs rs g.
           let left : List (List ℕ) = rs ++ (k .part ∷ k .after) in
           let all : qs ++ left ≡ (b ∷ d .word) ∷ d .rest =
           sym (append-assoc qs rs (k .part ∷ k .after)) ∙ ap (λ (l : List (List ℕ)). l ++ (k .part ∷ k .after)) (sym g) ∙ sym (k .parts) ∙ d .is in
           let free : AllPlain (qs ++ left) = subst (λ (l : List (List ℕ)). AllPlain l) (d .is ∙ sym all) (all-plain (b ∷ s)) in
-          in-grammar (joined qs) (carried (begun-left b qs left (d .word) (d .rest) n all free) (prefix qs rs start 0 (rw g at (k .goes))));
+          in-grammar (withDashes qs) (carried (begun-left b qs left (d .word) (d .rest) n all free) (prefix qs rs start 0 (rw g at (k .goes))));
     }
 
 -- the empty name is in the grammar, and is all that stands before the first dash of a name that begins with one
-lone : (qs rs : List (List ℕ)) → [] ∷ [] ≡ qs ++ rs → InGrammar (joined qs)
-unfolding joined readName
+lone : (qs rs : List (List ℕ)) → [] ∷ [] ≡ qs ++ rs → InGrammar (withDashes qs)
+unfolding withDashes readName
 lone [] rs e = in-grammar [] (record { next = 0; values = _; is = refl })
 lone (w ∷ []) rs e = let z : w ≡ [] = sym (ap (λ (l : List (List ℕ)). getD l 0 []) e) in rw z (in-grammar [] (record { next = 0; values = _; is = refl }))
 lone (w ∷ v ∷ ws) rs e = absurd (omega (arith, ap length e))
 
 dashed : (s : List ℕ) (ws : List (List ℕ)) → partsOf s ≡ ws → FirstAt (45 ∷ s) 1
-unfolding partsOf joined readName offsetOf
+unfolding partsOf withDashes readName offsetOf
 dashed s [] e = absurd (parts-some s e)
 dashed s (q ∷ qs) e =
     record {
@@ -240,10 +240,10 @@ one-first s o u f g = go (either (f .before) (f .part) (f .after) (g .before) (g
 
 -- a name of the grammar has no such part
 going-first : (s : List ℕ) (o : ℕ) → Going (readName s) → FirstAt s o → ⊥
-unfolding readName partsOf joined
+unfolding readName partsOf withDashes
 going-first [] o = λ g f. empty (f .before) (f .part) (f .after) (f .parts) (f .ends)
   where
-    empty : (b : List (List ℕ)) (p : List ℕ) (a : List (List ℕ)) → [] ∷ [] ≡ b ++ (p ∷ a) → (InGrammar (joined (b ++ (p ∷ []))) → ⊥) → ⊥
+    empty : (b : List (List ℕ)) (p : List ℕ) (a : List (List ℕ)) → [] ∷ [] ≡ b ++ (p ∷ a) → (InGrammar (withDashes (b ++ (p ∷ []))) → ⊥) → ⊥
     empty [] p a e n = let z : p ≡ [] = sym (ap (λ (l : List (List ℕ)). getD l 0 []) e) in n (rw z (in-grammar [] (record { next = 0; values = _; is = refl })))
     empty (w ∷ []) p a e n = omega (arith, ap length e)
     empty (w ∷ v ∷ b) p a e n = omega (arith, ap length e)
@@ -256,7 +256,7 @@ going-first (b ∷ s) o =
     let all : upto ++ f .after ≡ partsOf (b ∷ s) = one-more (f .before) (f .part) (f .after) ∙ sym (f .parts) in
     let free : AllPlain (upto ++ f .after) = rw all (all-plain (b ∷ s)) in
     let on : Going (readParts start 0 (upto ++ f .after)) = rw all g in
-    f .ends (in-grammar (joined upto) (carried (begun-left b upto (f .after) (d .word) (d .rest) (eqb-false b 45 t) (all ∙ d .is) free) (prefix upto (f .after) start 0 on))))
+    f .ends (in-grammar (withDashes upto) (carried (begun-left b upto (f .after) (d .word) (d .rest) (eqb-false b 45 t) (all ∙ d .is) free) (prefix upto (f .after) start 0 on))))
 
 -- 11 comes at an offset exactly when that is where the first such part is
 pub refused-exactly : RefusedExactly

@@ -9,7 +9,7 @@ use Rattle.record.specs.declared.ResTableConfig.{ResTableConfig}
 use Rattle.reading.specs.Reading.{parseOf, parseTook, parseRefused}
 use Rattle.writing.specs.Writing.{bytesWritten}
 use Rattle.places.specs.Places.{textOf}
-use Rattle.grammar.specs.Names.{joined, Named}
+use Rattle.grammar.specs.Names.{withDashes, Named}
 use Rattle.names.specs.Reading.{partsOf}
 use Rattle.names.specs.Named.{nameOf}
 
@@ -50,8 +50,8 @@ pub record FirstAt (s : List ℕ) (o : ℕ) : Type 0 where
   pub after : List (List ℕ)
   pub parts : partsOf s ≡ before ++ (part ∷ after)
   pub offset : o ≡ offsetOf before
-  pub ends : InGrammar (joined (before ++ (part ∷ []))) → ⊥
-  pub first : (qs rs : List (List ℕ)) → before ≡ qs ++ rs → InGrammar (joined qs)
+  pub ends : InGrammar (withDashes (before ++ (part ∷ []))) → ⊥
+  pub first : (qs rs : List (List ℕ)) → before ≡ qs ++ rs → InGrammar (withDashes qs)
 
 -- 11 comes at an offset exactly when that is it
 abbrev pub RefusedExactly : Type 0

@@ -22,7 +22,7 @@ use Rattle.letters.specs.Letters.{languageValue, regionValue}
 use Rattle.letters.proofs.Letters.{language-short}
 use Rattle.forms.specs.Values.{numberValue, numberBefore, densityValue, pairValue, minorValue}
 use Rattle.forms.proofs.Values.{between-back}
-use Rattle.parts.specs.Recognised.{valueIn, found, nothing, firstOf, recognised}
+use Rattle.parts.specs.Recognised.{valueIn, inSlot, nothing, firstOf, recognised}
 use Rattle.parts.specs.Beginning.{isDigit, classOf, headOf, leads, beginning, foundBy}
 use Rattle.parts.proofs.Gives.{makes}
 
@@ -176,7 +176,7 @@ long-none a b c s h =
     ]
 
 -- a language is a language
-pub recognised-language : (s : List ℕ) {v : ℕ} → v ≡ languageValue s → (v ≡ 0 → ⊥) → found slot.language v ≡ recognised s
+pub recognised-language : (s : List ℕ) {v : ℕ} → v ≡ languageValue s → (v ≡ 0 → ⊥) → inSlot slot.language v ≡ recognised s
 unfolding recognised firstOf rows valueIn
 recognised-language s {v} e h =
     let n : 1 ≤ languageValue s = omega arith in

@@ -9,11 +9,11 @@ use Rattle.grammar.specs.Forms.{Form}
 use Rattle.grammar.specs.Rows.{Row}
 use Rattle.compare.specs.Compare.{same}
 use Rattle.parts.specs.declared.Found.{Found}
-use Rattle.parts.specs.Recognised.{valueIn, found, nothing, firstOf}
+use Rattle.parts.specs.Recognised.{valueIn, inSlot, nothing, firstOf}
 
 module _ (form : Form) (slot : ℕ) (s : List ℕ) (rs : List Row) where
   -- a row that gives a value
-  pub hit : {v : ℕ} {x : Found} → x ≡ found slot v → v ≡ valueIn form s → (v ≡ 0 → ⊥) → x ≡ firstOf ((slot, form) ∷ rs) s
+  pub hit : {v : ℕ} {x : Found} → x ≡ inSlot slot v → v ≡ valueIn form s → (v ≡ 0 → ⊥) → x ≡ firstOf ((slot, form) ∷ rs) s
   unfolding firstOf
   hit {v} q e h = q ∙ rw (← e, ne-eqb v 0 h)
 
@@ -24,7 +24,7 @@ module _ (form : Form) (slot : ℕ) (s : List ℕ) (rs : List Row) where
 
 module _ (slot v : ℕ) (s w : List ℕ) (rs : List Row) where
   -- a word that the bytes are
-  pub word-hit : {t : Bool} {x : Found} → x ≡ found slot v → t ≡ same s w → t ≡ true → eqb v 0 ≡ false → x ≡ firstOf ((slot, Form.word v w) ∷ rs) s
+  pub word-hit : {t : Bool} {x : Found} → x ≡ inSlot slot v → t ≡ same s w → t ≡ true → eqb v 0 ≡ false → x ≡ firstOf ((slot, Form.word v w) ∷ rs) s
   unfolding firstOf valueIn
   word-hit q e h z = q ∙ rw (← e, h, z)
 

@@ -25,17 +25,17 @@ valueIn Form.region s = regionValue s
 valueIn (Form.word v w) s = wordValue v w s
 
 -- a value in a slot
-abbrev pub found : ℕ → ℕ → Found
-found slot value = record { slot = slot; value = value }
+abbrev pub inSlot : ℕ → ℕ → Found
+inSlot slot value = record { slot = slot; value = value }
 
 -- bytes that are no part
 abbrev pub nothing : Found
-nothing = found 0 0
+nothing = inSlot 0 0
 
 -- what the first row says that gives the bytes s a value
 unfoldable pub firstOf : List Row → List ℕ → Found
 firstOf [] s = nothing
-firstOf (r ∷ rs) s = cond (eqb (valueIn (r .1) s) 0) (firstOf rs s) (found (r .0) (valueIn (r .1) s))
+firstOf (r ∷ rs) s = cond (eqb (valueIn (r .1) s) 0) (firstOf rs s) (inSlot (r .0) (valueIn (r .1) s))
 
 -- what the bytes s are
 unfoldable pub recognised : List ℕ → Found

@@ -1,4 +1,4 @@
-// The parts that begin with a digit.
+// Densities, sides and keyboards of twelve keys.
 use crate::Found;
 use crate::in_slot;
 use crate::nothing;

@@ -26,7 +26,7 @@ use n_to_x::part_x;
 use slots::LANGUAGE;
 ghost use mathlib.Core.Path.{_≡_};
 ghost use Rattle.parts.specs.Beginning.{foundBy, isDigit};
-ghost use Rattle.parts.specs.Recognised.{found, nothing, recognised};
+ghost use Rattle.parts.specs.Recognised.{inSlot, nothing, recognised};
 
 // A value in a slot; the value is 0 where bytes are no part.
 pub struct Found {
@@ -53,7 +53,7 @@ fn is_digit(b: u8) -> bool
 
 // A value in a slot.
 fn in_slot(slot: usize, value: u32) -> Found
-    ensures { λ r. ⌜ r ≡ found slot value ⌝ }
+    ensures { λ r. ⌜ r ≡ inSlot slot value ⌝ }
 {
     Found { slot, value }
 }

@@ -31,4 +31,4 @@ pair-value-spec =
     let e = rw (rest-is s (k + 1)) at (number-in2 .number-in2 .ensures) in
     let f = number-in .number-in .ensures in
     let u = up-to .up-to .ensures .0 in
-    c .paired .ensures ∙ rw (e, f, u) (pair-is _ s)))
+    c .two-numbers .ensures ∙ rw (e, f, u) (pair-is _ s)))

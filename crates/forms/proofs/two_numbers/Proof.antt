@@ -1,11 +1,11 @@
--- `paired` takes two numbers of 16 bits. Assumes nothing.
+-- `two_numbers` takes two numbers of 16 bits. Assumes nothing.
 use native.Mathlib.Omega.{arith}
 use borrow.Author.Tests.{le-leb, lt-leb}
-use Rattle.forms.proofs.paired.Statement.{statement}
-use Rattle.forms.proofs.paired.Tie as tie
+use Rattle.forms.proofs.two_numbers.Statement.{statement}
+use Rattle.forms.proofs.two_numbers.Tie as tie
 
-pub paired-spec : {M : Type 1} → statement M
-paired-spec =
+pub two-numbers-spec : {M : Type 1} → statement M
+two-numbers-spec =
     tie.close
     (tie.spec
     (λ c. rw (lt-leb _ 65535 (c .if1 .taken)))
