@@ -9,3 +9,4 @@ pub mod Plain
 pub mod Fits
 pub mod Gathered
 pub mod Text
+pub mod Words

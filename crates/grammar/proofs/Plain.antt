@@ -42,4 +42,4 @@ all-plain = refl
 pub words-are-plain : WordsArePlain
 words-are-plain s v w i =
     let q = and-both {a = leb 1 (length w)} {b = unequalled w} (row-passes plainRow s (Form.word v w) rows all-plain i) in
-    (leb-true 1 (length w) (q .0), none-equals w (q .1))
+    record { some = leb-true 1 (length w) (q .0); unequalled = none-equals w (q .1) }
