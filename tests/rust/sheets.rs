@@ -5,15 +5,15 @@ use crate::payloads::{all_of, few_of, RECORDS};
 use crate::questions::Asked;
 use crate::records::answered;
 use crate::scale::expected::whole;
-use crate::spellings::{LONGEST, PLACES, SPELLED};
+use crate::spellings::{told, CODES, PLACES, SPELLED};
 use crate::subject::{reach, ResTableConfig};
 
 /// The row of the question.
 pub const SHEET: Asked = Asked {
     tag: 18,
     name: "sheet",
-    full: |random| [PLACES, SPELLED, RECORDS].map(|makers| all_of(makers, random)).concat(),
-    fixed: || [vec![LONGEST.to_vec()], few_of(PLACES, 40), few_of(SPELLED, 10), few_of(RECORDS, 8)].concat(),
+    full: |random| [PLACES, CODES, SPELLED, RECORDS].map(|makers| all_of(makers, random)).concat(),
+    fixed: || [told(), few_of(PLACES, 40), few_of(SPELLED, 10), few_of(RECORDS, 8)].concat(),
     answer: |bytes| answered(whole(bytes).map(|(record, _)| sheet(&record))),
     replacements_at: None,
 };
@@ -94,6 +94,12 @@ fn text(places: &[Place]) -> String {
     text
 }
 
+/// The network code of a stored number: none of 0, and of any other what 65535 leaves of it, so that 65535 itself states a code
+/// of zero, as Android's `ACONFIGURATION_MNC_ZERO` does.
+fn network_code(mnc: u16) -> Option<u16> {
+    (mnc != 0).then_some(mnc % 0xffff)
+}
+
 /// The plain numbers, the case of each kind with what it holds, and the said bits, the first place lowest. The network code is
 /// 0 where it is silent, else 1, and its number.
 fn sheet(r: &ResTableConfig) -> Vec<u8> {
@@ -102,9 +108,10 @@ fn sheet(r: &ResTableConfig) -> Vec<u8> {
     let ((mcc, mnc), (width_dp, height_dp)) = (r.get_mcc_mnc(), r.get_screen_width_height_dp());
     let ((width, height), (sdk, minor)) = (r.get_screen_width_height(), r.get_sdk_minor_version());
     let (_, _, smallest) = r.get_screen_layout_ui_smallest_width();
+    let code = network_code(mnc);
     let mut answer = mcc.to_le_bytes().to_vec();
-    answer.push((mnc != 0).into());
-    for number in [mnc, smallest, width_dp, height_dp, width, height, sdk, minor] {
+    answer.push(code.is_some().into());
+    for number in [code.unwrap_or(0), smallest, width_dp, height_dp, width, height, sdk, minor] {
         answer.extend(number.to_le_bytes());
     }
     for (at, number) in numbers(r).into_iter().enumerate() {

@@ -7,6 +7,9 @@ use std::ops::Range;
 /// Records, by what each of their bytes says.
 pub const PLACES: &[Maker] = &[densities, values, of_every_size];
 
+/// Records, by their network code.
+pub const CODES: &[Maker] = &[codes];
+
 /// Records, by how their locale is spelled.
 pub const SPELLED: &[Maker] = &[ill_spelled, computed, looking_real, locales];
 
@@ -64,6 +67,12 @@ const LEADS: [(u8, u8); 12] = [
 /// A byte of each class that may follow.
 const FOLLOWERS: [u8; 13] = [0x00, 0x41, 0x7f, 0x80, 0x8f, 0x90, 0x9f, 0xa0, 0xbf, 0xc2, 0xe2, 0xf0, 0xff];
 
+/// Network codes that the fixed lists ask about: none, the first, and the last two, of which the very last stands for 0.
+const TOLD_CODES: [u16; 4] = [0, 1, 0xfffe, 0xffff];
+
+/// Where the network code stands.
+const MNC: usize = 6;
+
 /// Where script, variant and numbering system lie.
 pub const SUBTAGGED: [Range<usize>; 3] = [36..40, 40..48, 53..61];
 
@@ -108,15 +117,35 @@ fn lay(bytes: &mut [u8], part: Range<usize>, at: usize, word: &[u8]) {
     }
 }
 
-/// Every density, once.
-fn densities(random: &mut Random) -> Vec<Vec<u8>> {
+/// Every number of two bytes at an offset, each in a record of its own.
+fn halves(random: &mut Random, at: usize) -> Vec<Vec<u8>> {
     (0..=u16::MAX)
-        .map(|density| {
+        .map(|half| {
             let mut bytes = ground(random);
-            bytes[14..16].copy_from_slice(&density.to_le_bytes());
+            bytes[at..at + 2].copy_from_slice(&half.to_le_bytes());
             bytes
         })
         .collect()
+}
+
+/// Every density, once.
+fn densities(random: &mut Random) -> Vec<Vec<u8>> {
+    halves(random, 14)
+}
+
+/// Every network code, once.
+fn codes(random: &mut Random) -> Vec<Vec<u8>> {
+    halves(random, MNC)
+}
+
+/// Records that the fixed lists ask about: that of the longest text, and some that say a network code alone.
+pub fn told() -> Vec<Vec<u8>> {
+    let coded = |code: u16| {
+        let mut bytes = empty();
+        bytes[MNC..MNC + 2].copy_from_slice(&code.to_le_bytes());
+        bytes
+    };
+    [vec![LONGEST.to_vec()], TOLD_CODES.map(coded).to_vec()].concat()
 }
 
 /// Every value of every byte behind size: alone, in a record that says everything, and among random bytes.

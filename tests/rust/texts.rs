@@ -4,7 +4,7 @@ use crate::questions::Asked;
 use crate::records::answered;
 use crate::replaced::{held_in_record, held_in_subtag};
 use crate::scale::expected::whole;
-use crate::spellings::{LONGEST, PAIRS, PLACES, SPELLED, SUBTAGS, TOLD_PAIRS};
+use crate::spellings::{told, CODES, PAIRS, PLACES, SPELLED, SUBTAGS, TOLD_PAIRS};
 use crate::spoilt::{PIECES, SPOILT};
 use crate::subject::{reach, ResTableConfig};
 
@@ -13,10 +13,10 @@ pub const ASKED: &[Asked] = &[
     Asked {
         tag: 48,
         name: "as_string",
-        full: |random| [PLACES, SPELLED, SPOILT, RECORDS].map(|makers| all_of(makers, random)).concat(),
+        full: |random| [PLACES, CODES, SPELLED, SPOILT, RECORDS].map(|makers| all_of(makers, random)).concat(),
         fixed: || {
             let few = [few_of(PLACES, 35), few_of(SPELLED, 20), few_of(SPOILT, 26), few_of(RECORDS, 12)];
-            [vec![LONGEST.to_vec()], few.concat()].concat()
+            [told(), few.concat()].concat()
         },
         answer: |bytes| answered(whole(bytes).map(|(record, _)| of_record(&record, record.as_string()))),
         replacements_at: REPLACEMENTS_AT,

@@ -14,9 +14,9 @@ use Rattle.places.specs.Places.{placesOf}
 use Rattle.sheet.specs.declared.NetworkCode.{NetworkCode}
 use Rattle.sheet.specs.declared.Sheet.{Sheet}
 
--- the network code is silent when mnc is 0, else the stored number
+-- the network code: silent for 0, code 0 for 65535, else the stored number (02, K6)
 abbrev pub networkCodeOf : ℕ → NetworkCode
-networkCodeOf mnc = cond (eqb mnc 0) NetworkCode.Silent (NetworkCode.Code mnc)
+networkCodeOf mnc = cond (eqb mnc 0) NetworkCode.Silent (cond (eqb mnc 65535) (NetworkCode.Code 0) (NetworkCode.Code mnc))
 
 -- some answers as one number, a bit for each, the first lowest
 abbrev pub bits : List Bool → ℕ

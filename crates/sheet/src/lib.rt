@@ -22,7 +22,7 @@ use said::said;
 ghost use mathlib.Core.Path.{_≡_};
 ghost use Rattle.sheet.specs.Sheet.{networkCodeOf, sheetOf};
 
-// A network code: silent, or the stored number.
+// A network code: silent, or a code, which may be 0.
 pub enum NetworkCode {
     Silent,
     Code(u16),
@@ -58,14 +58,14 @@ pub struct Sheet {
     pub said: u32,
 }
 
-// The network code of a stored number.
+// The network code of a stored number: 65535 is stored for a code of zero that is stated.
 fn network_code(mnc: u16) -> NetworkCode
     ensures { λ r. ⌜ r ≡ networkCodeOf mnc ⌝ }
 {
-    if mnc == 0 {
-        NetworkCode::Silent
-    } else {
-        NetworkCode::Code(mnc)
+    match mnc {
+        0 => NetworkCode::Silent,
+        65535 => NetworkCode::Code(0),
+        _ => NetworkCode::Code(mnc),
     }
 }
 

@@ -1,5 +1,5 @@
--- Silent when 0. Assumes nothing.
-use borrow.Author.Tests.{eq-eqb, ne-eqb}
+-- Silent for 0, code 0 for 65535, else the stored number. Assumes nothing.
+use borrow.Author.Tests.{ne-eqb}
 use Rattle.sheet.proofs.network_code.Statement.{statement}
 use Rattle.sheet.proofs.network_code.Tie as tie
 
@@ -7,4 +7,6 @@ pub network-code-spec : {M : Type 1} → statement M
 network-code-spec =
     tie.close
     (tie.spec
-    (λ c. simp (eq-eqb _ _ (c .if1 .taken))) (λ c. simp (ne-eqb _ _ (c .if1 .left))))
+    (λ c. rw (c .match .keys1))
+    (λ c. rw (c .match .keys2))
+    (λ c. simp (ne-eqb _ _ (c .match .rest .0 .1), ne-eqb _ _ (c .match .rest .1))))
