@@ -1,5 +1,5 @@
-//! The question on sheets. 000 has none: the numbers are those of its accessors, the kinds what it makes of them, and the said
-//! bits go by a table of this file, which is held to 000's text.
+//! The question on sheets. 000 has none: the numbers are those of its accessors, the kinds what it makes of them; the network code
+//! goes by document 02, K6, and the said bits by a table of this file, which is held to 000's text.
 use crate::kinds::kind_of;
 use crate::payloads::{all_of, few_of, RECORDS};
 use crate::questions::Asked;
