@@ -44,9 +44,10 @@ enum res_table_config_refusal {
                                             name */
 };
 
-/* How many bytes the longest text has, how many marks there are, how many fields, whose rows count from 0, and how many bytes
-   res_table_config_named and res_table_type_head write. */
+/* The age that a listing takes where none is named; the calls always take one. How many bytes the longest text has, how many marks there
+   are, how many fields, whose rows count from 0, and how many bytes res_table_config_named and res_table_type_head write. */
 enum {
+    RES_TABLE_CONFIG_DEFAULT_AGE = 52,
     RES_TABLE_CONFIG_TEXT_MOST = 344,
     RES_TABLE_CONFIG_MARKS = 14,
     RES_TABLE_CONFIG_FIELDS = 15,

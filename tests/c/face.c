@@ -304,6 +304,7 @@ static void header(void) {
     CHECK(res_table_config_carried(answer) == 0xfffffff9u && res_table_config_amount(answer) == 0);
     CHECK(res_table_config_amount(0xfffffff9u) == 0xfffffff9u && res_table_config_carried(0xfffffff9u) == 0);
     CHECK(RES_TABLE_CONFIG_UNREAD_FIELD == 6 && RES_TABLE_CONFIG_NOT_A_NAME == 11);
+    CHECK(RES_TABLE_CONFIG_DEFAULT_AGE == 52);
     CHECK(RES_TABLE_CONFIG_MARKS == 14 && RES_TABLE_CONFIG_NAMED_SIZE == 64 && RES_TABLE_TYPE_HEAD == 10);
     CHECK(same(res_table_config_field(0), "size") && same(res_table_config_field(8), "screen_size_dp"));
     CHECK(same(res_table_config_field(10), "locale_variant") && same(res_table_config_field(14), "end_padding"));

@@ -5,6 +5,9 @@ use crate::replaced;
 use crate::subject::{reach, ResTableConfig};
 use std::io::{Result, Write};
 
+/// The age where none is given (02, K7).
+pub const NOT_GIVEN: u32 = 52;
+
 /// The most bytes that a listing takes.
 pub const MOST: usize = 65_536;
 

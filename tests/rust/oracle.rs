@@ -32,7 +32,7 @@ const USAGE: &str = "usage: oracle programs
        oracle answer PROGRAM
        oracle compare PROGRAM QUESTIONS EXPECTED GOT
        oracle runs FOLDER COUNT SEED
-       oracle listing
+       oracle listing AGE
        oracle ask made SEED COUNT
        oracle ask mutated SEED SECONDS
        oracle ask cut|chunk|name SEED
@@ -48,7 +48,7 @@ fn main() -> ExitCode {
         ["fixed", program] => answered_by(program).and_then(|table| write(&frames(&questions::fixed(table)))),
         ["answer", program] => answer(program),
         ["compare", program, questions, expected, got] => compare(program, questions, expected, got),
-        ["listing"] => input().and_then(|bytes| write(&listed(&bytes)?)),
+        ["listing", age] => number(age).and_then(|age| write(&listed(&input()?, age)?)),
         ["runs", folder, count, seed] => runs(folder, count, seed),
         ["ask", name @ ("cut" | "chunk" | "name"), seed] => scale::ask(name, seed, None),
         ["ask", name, seed, limit] => scale::ask(name, seed, Some(limit)),
@@ -76,21 +76,29 @@ fn make(program: &str, seed: &str) -> Result<(), String> {
     write(&frames(&questions::full(answered_by(program)?, seed)))
 }
 
-/// Writes runs to a folder, each as N.run, and beside it the listing by 01's rules at age 64 as N.lines.
+/// Writes runs to a folder, each as N.run, and beside it the listing by 01's rules at each of the twelve ages A as N.A, and the one where no
+/// age is given as N.none.
 fn runs(folder: &str, count: &str, seed: &str) -> Result<(), String> {
-    let number = |word: &str| word.parse::<u64>().map_err(|_| format!("{word} is no number"));
     let runs = listing::runs(&mut questions::Random(number(seed)?), number(count)? as usize);
     let file = |name: String, bytes: &[u8]| std::fs::write(format!("{folder}/{name}"), bytes).map_err(|e| format!("{name}: {e}"));
     for (at, run) in runs.iter().enumerate() {
         file(format!("{at}.run"), run)?;
-        file(format!("{at}.lines"), &listed(run)?)?;
+        file(format!("{at}.none"), &listed(run, listed::NOT_GIVEN.into())?)?;
+        for age in &cut::ENDS[3..] {
+            file(format!("{at}.{age}"), &listed(run, *age as u64)?)?;
+        }
     }
     Ok(())
 }
 
-/// The listing of some bytes by 01's rules at age 64.
-fn listed(bytes: &[u8]) -> Result<Vec<u8>, String> {
-    listed::listing(bytes, 64).map_err(|e| e.to_string())
+/// The number that a word is.
+fn number(word: &str) -> Result<u64, String> {
+    word.parse().map_err(|_| format!("{word} is no number"))
+}
+
+/// The listing of some bytes by 01's rules at an age.
+fn listed(bytes: &[u8], age: u64) -> Result<Vec<u8>, String> {
+    listed::listing(bytes, age as usize).map_err(|e| e.to_string())
 }
 
 /// All of standard input.

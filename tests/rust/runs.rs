@@ -1,7 +1,7 @@
 //! The questions on an offset of a run: the step there, the run reader, text, marks, and whether a record is held back. 000 has
 //! neither runs nor ages: the answers are 01's rules over what it parses and says.
 use crate::cut::Refused;
-use crate::listed::{held_back, stop};
+use crate::listed::{held_back, stop, NOT_GIVEN};
 use crate::payloads::{all_of, declare, declared, few_of, many, one, record, sizes_at_lengths, Maker, ENDS, RECORDS};
 use crate::questions::{Asked, Random};
 use crate::records::{at_every_age, fields, told};
@@ -32,7 +32,7 @@ macro_rules! at_a_place {
 /// The rows of the questions.
 pub const STEP_AT: Asked = at_a_place!(37, "step_at", AT_AGES, |at| stepped(&at, at.age), None);
 pub const READ_AT: Asked = at_a_place!(38, "read_at", AT_AGES, |at| stepped(&at, at.age), None);
-pub const SOUGHT: Asked = at_a_place!(39, "RunReader::new, moved", AT_OFFSETS, |at| stepped(&at, 64), None);
+pub const SOUGHT: Asked = at_a_place!(39, "RunReader::new, moved", AT_OFFSETS, |at| stepped(&at, NOT_GIVEN), None);
 pub const HELD_BACK: Asked = at_a_place!(40, "held_back", AT_AGES, held, None);
 pub const TEXT_AT: Asked = at_a_place!(41, "text_at", AT_AGES, |at| wrote(at, Call::AgedText), Some(20));
 pub const MARKS_AT: Asked = at_a_place!(42, "marks_at", AT_AGES, |at| wrote(at, Call::Marks), None);

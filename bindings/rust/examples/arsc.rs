@@ -1,14 +1,15 @@
 //! Lists the type chunks of a `resources.arsc`: offset in the file, id, entry count, and the text of the configuration for a reader of
-//! age 64, or why it is refused. A text is escaped as in a listing: `%` and two digits for a byte that isn't a printable ASCII character or is
+//! the age, 52 where none is given, or why it is refused. A text is escaped as in a listing: `%` and two digits for a byte that isn't a printable ASCII character or is
 //! `%`, and `%-` where it is empty. Where a chunk's head is refused, `-` stands for id and count.
 //!
-//!   cargo run --example arsc FILE
+//!   cargo run --example arsc FILE [AGE]
 //!
 //! The file is a table (type 0x0002) of packages (0x0200) of chunks. Table and packages are opened, and of their chunks the type chunks (0x0201)
 //! are handed to the calls of the crate; nothing else is. Where a chunk has sizes that can't be, the list ends with a message, and the
 //! status is 1.
 
-use res_table_config::{type_aged_text, type_head, TEXT_MOST};
+use res_table_config::{type_aged_text, type_head, AGES, DEFAULT_AGE, TEXT_MOST};
+use std::ffi::OsString;
 use std::io::Write;
 use std::{env, fs, io, process};
 
@@ -62,19 +63,19 @@ fn shown(text: &[u8]) -> String {
     }
 }
 
-/// The line of a type chunk at an offset.
-fn line(chunk: &[u8], offset: usize) -> String {
+/// The line of a type chunk at an offset, for a reader of an age.
+fn line(chunk: &[u8], offset: usize, age: u32) -> String {
     let head = match type_head(chunk) {
         Ok(head) => head,
         Err(why) => return format!("{offset} - - ({why})\n"),
     };
     let mut out = [0; TEXT_MOST];
-    let text = type_aged_text(chunk, 64, &mut out).map_or_else(|why| format!("({why})"), shown);
+    let text = type_aged_text(chunk, age, &mut out).map_or_else(|why| format!("({why})"), shown);
     format!("{offset} {} {} {text}\n", head.id, head.entry_count)
 }
 
-/// The lines of a table's type chunks, and why there are no more where the table doesn't end there.
-pub fn lines(file: &[u8]) -> (String, Result<(), String>) {
+/// The lines of a table's type chunks for a reader of an age, and why there are no more where the table doesn't end there.
+pub fn lines(file: &[u8], age: u32) -> (String, Result<(), String>) {
     let mut list = String::new();
     let table = match chunk_at(file, 0, file.len()) {
         Ok(table) if table.kind == TABLE => table,
@@ -86,7 +87,7 @@ pub fn lines(file: &[u8]) -> (String, Result<(), String>) {
     let ended = each(file, table, |package| match package.kind {
         PACKAGE => each(file, package, |chunk| {
             if chunk.kind == TYPE {
-                list += &line(&file[chunk.offset..chunk.end], chunk.offset);
+                list += &line(&file[chunk.offset..chunk.end], chunk.offset, age);
             }
             Ok(())
         }),
@@ -97,13 +98,19 @@ pub fn lines(file: &[u8]) -> (String, Result<(), String>) {
 
 #[allow(dead_code)]
 fn main() {
-    let Some(name) = env::args_os().nth(1) else {
-        eprintln!("usage: arsc FILE");
+    let words: Vec<OsString> = env::args_os().skip(1).collect();
+    let given = match &words[..] {
+        [name] => Some((name, DEFAULT_AGE)),
+        [name, word] => AGES.into_iter().find(|age| *word == *age.to_string()).map(|age| (name, age)),
+        _ => None,
+    };
+    let Some((name, age)) = given else {
+        eprintln!("usage: arsc FILE [AGE]\nThe ages are {AGES:?}.");
         process::exit(2);
     };
-    let read = fs::read(&name).map_err(|why| why.to_string());
+    let read = fs::read(name).map_err(|why| why.to_string());
     let listed = read.and_then(|file| {
-        let (list, ended) = lines(&file);
+        let (list, ended) = lines(&file, age);
         io::stdout().write_all(list.as_bytes()).map_err(|why| why.to_string()).and(ended)
     });
     if let Err(why) = listed {

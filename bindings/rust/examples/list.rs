@@ -1,10 +1,10 @@
 //! Lists the records of a file, end to end: index, offset, bytes taken, and the text or why it is refused. The text is that for a
-//! reader of the age, 64 where none is given; with `plain` it is the plain text, of records that are held back too. The last line
+//! reader of the age, 52 where none is given; with `plain` it is the plain text, of records that are held back too. The last line
 //! has the offset where the list stopped, and why if bytes are left.
 //!
 //!   cargo run --example list FILE [AGE|plain]
 
-use res_table_config::{aged_text, take, text, TEXT_MOST};
+use res_table_config::{aged_text, take, text, AGES, DEFAULT_AGE, TEXT_MOST};
 use std::{env, fs, process};
 
 /// The lines of a run of records for a reader of an age, or with the plain text.
@@ -35,13 +35,14 @@ pub fn lines(run: &[u8], age: Option<u32>) -> String {
 #[allow(dead_code)]
 fn main() {
     let words: Vec<String> = env::args().skip(1).collect();
-    let age = match words.get(1).map(String::as_str) {
-        None => Ok(Some(64)),
-        Some("plain") => Ok(None),
-        Some(age) => age.parse().map(Some),
+    let given = match words.iter().map(String::as_str).collect::<Vec<_>>()[..] {
+        [file] => Some((file, Some(DEFAULT_AGE))),
+        [file, "plain"] => Some((file, None)),
+        [file, word] => AGES.into_iter().find(|age| age.to_string() == word).map(|age| (file, Some(age))),
+        _ => None,
     };
-    let (Some(file), Ok(age)) = (words.first(), age) else {
-        eprintln!("usage: list FILE [AGE|plain]");
+    let Some((file, age)) = given else {
+        eprintln!("usage: list FILE [AGE|plain]\nThe ages are {AGES:?}.");
         process::exit(2);
     };
     match fs::read(file) {

@@ -2,7 +2,7 @@
 //! them, over the proved crate `res_table_config` (`include/res_table_config.h` is its C face).
 //!
 //! Eleven functions on slices, six on records, [`named`] on names and four, which begin with `type_`, on type chunks. Each takes every
-//! input: what it can't do it refuses with a [`Refusal`], and a refusal writes nothing. Ages are plain numbers; twelve of them are ages.
+//! input: what it can't do it refuses with a [`Refusal`], and a refusal writes nothing. Ages are plain numbers; twelve of them are [`AGES`].
 //!
 //! ```
 //! let record = *b"\x10\0\0\0\x36\x01\0\0enUS\x01\0\xf0\0";
@@ -14,6 +14,12 @@
 
 use std::cmp::Ordering;
 use std::fmt;
+
+/// The twelve ages: the numbers of bytes up to which a reader may know a record.
+pub const AGES: [u32; 12] = [16, 20, 24, 28, 32, 36, 40, 48, 52, 53, 61, 64];
+
+/// The age that a listing takes where none is named. Most devices know a record up to there; the functions of this crate always take an age.
+pub const DEFAULT_AGE: u32 = 52;
 
 /// How many bytes the longest text has: with as much room, [`text`], [`aged_text`] and [`type_aged_text`] never refuse with
 /// [`Refusal::ShortBuffer`].
@@ -56,7 +62,7 @@ pub enum Refusal {
     /// There are 16 bytes or more, and fewer than the record's size: every field that the size holds is there, and only bytes that
     /// no field decodes are lacking.
     UndecodedCut,
-    /// The age is not among the twelve.
+    /// The age is not among the twelve [`AGES`].
     NotAnAge,
     /// A byte of the record at offset age or later isn't zero.
     HeldBack,

@@ -8,8 +8,8 @@ mod arsc;
 #[path = "../examples/list.rs"]
 mod list;
 
-use res_table_config::{aged_text, marks, order, replaced, take, text, Refusal, FIELDS, MARKS, TEXT_MOST};
-use res_table_config::{named, type_aged_text, type_head, type_marks, type_take, Head, NAMED_SIZE};
+use res_table_config::{aged_text, marks, order, replaced, take, text, Refusal, AGES, FIELDS, MARKS, TEXT_MOST};
+use res_table_config::{named, type_aged_text, type_head, type_marks, type_take, Head, DEFAULT_AGE, NAMED_SIZE};
 use std::cmp::Ordering;
 
 /// 01's listing: a phone's record, a blank one, and three bytes that are none.
@@ -240,6 +240,11 @@ fn lists() {
     let held = list::lines(&record(36, 32, 100)[..36], Some(32));
     assert_eq!(held, "0 0 36 (held back: a byte past the age isn't zero)\nstopped at 36\n");
     assert_eq!(list::lines(&[], None), "stopped at 0\n");
+    // a numbering system: 52 doesn't know it, and holds the record back
+    let numbered = &spelled(b"ar\0\0", &[0; 4], &[0; 8], b"latn\0\0\0\0")[..64];
+    assert_eq!(list::lines(numbered, Some(64)), "0 0 64 b+ar+u+nu+latn\nstopped at 64\n");
+    let held = list::lines(numbered, Some(DEFAULT_AGE));
+    assert_eq!(held, "0 0 64 (held back: a byte past the age isn't zero)\nstopped at 64\n");
     let cut = list::lines(&record(64, 4, 0)[..40], None);
     assert_eq!(cut, "stopped at 0: cut inside field 10, locale_variant\n");
 }
@@ -344,15 +349,19 @@ fn tables() {
 281 - - (cut inside field 10, locale_variant)
 341 - - (the chunk's header size or chunk size can't be)
 ";
-    assert_eq!(arsc::lines(&whole), (expected.to_string(), Ok(())));
+    assert_eq!(arsc::lines(&whole, 64), (expected.to_string(), Ok(())));
+    // an age that knows less holds back what another shows
+    let computed = table(&[type_chunk(84, 84, &record(64, 52, 1)[..64])]);
+    assert_eq!(arsc::lines(&computed, 64).0, "48 7 16909060 %-\n");
+    assert_eq!(arsc::lines(&computed, DEFAULT_AGE).0, "48 7 16909060 (held back: a byte past the age isn't zero)\n");
     // what stands behind the table isn't looked at
     whole.extend([1, 2, 3]);
-    assert_eq!(arsc::lines(&whole), (expected.to_string(), Ok(())));
+    assert_eq!(arsc::lines(&whole, 64), (expected.to_string(), Ok(())));
 }
 
 /// Files that are no table: the list ends with a message, and the first lines stand.
 fn no_tables() {
-    let said = |file: &[u8]| arsc::lines(file).1.expect_err("no table");
+    let said = |file: &[u8]| arsc::lines(file, 64).1.expect_err("no table");
     assert_eq!(said(&[]), "at 0: fewer than the 8 bytes that every chunk begins with");
     assert_eq!(said(&chunk(0x0003, 8, 8, &[])), "at 0: a chunk of type 0x0003 and not a table, 0x0002");
     let whole = table(&[type_chunk(36, 36, &RUN[..16])]);
@@ -363,15 +372,27 @@ fn no_tables() {
             format!("at 0: a chunk of type 0x0002 with {sizes}, where {length} bytes are")
         );
     }
-    let (list, ended) = arsc::lines(&table(&[type_chunk(36, 36, &RUN[..16]), vec![1, 2, 0, 0, 0, 0, 0, 0]]));
+    let (list, ended) = arsc::lines(&table(&[type_chunk(36, 36, &RUN[..16]), vec![1, 2, 0, 0, 0, 0, 0, 0]]), 64);
     assert_eq!(list, "48 7 16909060 mcc310-en-rUS-port-hdpi\n");
     let sizes = "header size 0 and chunk size 0";
     assert_eq!(ended, Err(format!("at 84: a chunk of type 0x0201 with {sizes}, where 8 bytes are")));
-    let (_, ended) = arsc::lines(&table(&[type_chunk(36, 36, &RUN[..16]), vec![1, 2, 8]]));
+    let (_, ended) = arsc::lines(&table(&[type_chunk(36, 36, &RUN[..16]), vec![1, 2, 8]]), 64);
     assert_eq!(ended, Err("at 84: fewer than the 8 bytes that every chunk begins with".into()));
 }
 
-const CHECKS: [(&str, fn()); 14] = [
+/// Of all numbers to 200, and some that are an age in their lower bits, the twelve are ages.
+fn ages() {
+    let numbers = (0..=200).chain([256 + 64, 65536 + 52, u32::MAX]);
+    for number in numbers {
+        let refused = replaced(&[0; 16], number) == Err(Refusal::NotAnAge);
+        assert_eq!(refused, !AGES.contains(&number), "{number}");
+    }
+    assert_eq!((AGES.len(), DEFAULT_AGE), (12, 52));
+    assert_eq!(marks(RUN, DEFAULT_AGE), Ok(*b"FFFAAAAAAAAUUU"));
+}
+
+const CHECKS: [(&str, fn()); 15] = [
+    ("ages", ages),
     ("take", takes),
     ("text", texts),
     ("aged text", aged_texts),

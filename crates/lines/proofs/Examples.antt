@@ -1,8 +1,8 @@
 -- 01's listing, and what is easy to get wrong in a line, by computation. Assumes nothing.
-use Prim.Native.Nat.{ℕ}
+use Prim.Native.Nat.{ℕ, _<_}
 use mathlib.Core.Path.{_≡_, refl}
 use mathlib.Core.List.{List, [], _∷_, _++_}
-use lib.ListN.{replicate}
+use lib.ListN.{length, replicate}
 use Rattle.answers.specs.declared.Refusal.{Refusal}
 use Rattle.buffer.specs.Ascii.{ascii}
 use Rattle.buffer.specs.Decimal.{digits, decimal}
@@ -15,7 +15,7 @@ use Rattle.locale.specs.Locale.{legacyWords, newWords, localeWords}
 use Rattle.locale.specs.Subtags.{localeSubtags}
 use Rattle.places.specs.Say.{say, dashAfter, sayAll}
 use Rattle.places.specs.Places.{placesOf, textOf}
-use Rattle.record.specs.Ages.{isAge}
+use Rattle.record.specs.Ages.{isAge, defaultAge}
 use Rattle.reading.specs.Cut.{lacking}
 use Rattle.reading.specs.Reading.{reads, fieldBy, recordBy, aged, ifWhole, ifAge}
 use Rattle.marking.specs.Marks.{markBetween, lettersIn, heldBack}
@@ -24,6 +24,7 @@ use Rattle.runs.specs.Runs.{frontAt}
 use Rattle.record_line.specs.RecordLine.{visible, escaped, escapedAll, shownWords, newline, laidOut}
 use Rattle.lines.specs.declared.Cursor.{Cursor}
 use Rattle.lines.specs.Lines.{ageLine, reasonWords, stopLine, recordLines, lineAt, after, lineRefused, lineOf, listingOf}
+use Rattle.lines.proofs.Listing.{too-much-listed}
 
 -- 01's bytes: a record of 16, sixteen zeros, and three bytes more
 abbrev given : List ℕ
@@ -41,6 +42,13 @@ pub examples :
     ≡ (ascii "age 64" ++ newline)
     ∷ (ascii "0 0 16 FFFAAAAAAAAAAA mcc310-en-rUS-port-hdpi 0" ++ newline)
     ∷ (ascii "1 16 0 BBBAAAAAAAAAAA %- 0" ++ newline)
+    ∷ (ascii "stop 32 1" ++ newline)
+    ∷ [])
+    -- and those that 02, K7 has for them, where no age is given: U in the last three marks, and the same texts with their counts
+    × (listingOf defaultAge given
+    ≡ (ascii "age 52" ++ newline)
+    ∷ (ascii "0 0 16 FFFAAAAAAAAUUU mcc310-en-rUS-port-hdpi 0" ++ newline)
+    ∷ (ascii "1 16 0 BBBAAAAAAAAUUU %- 0" ++ newline)
     ∷ (ascii "stop 32 1" ++ newline)
     ∷ [])
     -- no bytes: the run stops at its exact end with 0
@@ -64,4 +72,9 @@ unfolding listingOf recordLines offsetsIn stopIn frontAt lineOf lineAt after wri
     escapedAll escaped visible lettersIn markBetween heldBack isAge ifAge ifWhole lacking aged recordBy fieldBy reads textOf placesOf
     sayAll say dashAfter localeWords newWords legacyWords unpacked subtagOf dropNuls keep replaced replacedBy frontOf okAt decimal
     digits replacements illFormedBy localeSubtags
-examples = (refl, refl, refl, refl, refl, refl, refl, refl)
+examples = (refl, refl, refl, refl, refl, refl, refl, refl, refl)
+
+-- too much input where no age is given
+pub too-much-default : (s : List ℕ) → 65536 < length s → listingOf defaultAge s ≡ (ascii "age 52" ++ newline) ∷ (ascii "stop 0 7" ++ newline) ∷ []
+unfolding ageLine stopLine reasonWords decimal digits
+too-much-default s h = too-much-listed defaultAge s h

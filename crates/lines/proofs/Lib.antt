@@ -6,3 +6,4 @@ pub mod Listing
 pub mod OneOutcome
 pub mod Examples
 pub mod Newlines
+pub mod TwoAges

@@ -2,11 +2,14 @@
 use Prim.Native.Nat.{ℕ, _+_}
 use mathlib.Core.Path.{_≡_}
 use mathlib.Core.List.{List, [], _∷_, _++_}
+use mathlib.Core.Bool.{false}
 use mathlib.Core.Logic.{_↔_}
 use lib.ListN.{length}
 use Rattle.answers.specs.declared.Refusal.{Refusal}
 use Rattle.record.specs.declared.ResTableConfig.{ResTableConfig}
+use Rattle.record.specs.Ages.{defaultAge}
 use Rattle.reading.specs.Reading.{parseOf, parseTook, parseRefused}
+use Rattle.marking.specs.Marks.{heldBack}
 use Rattle.writing.specs.Writing.{bytesWritten}
 use Rattle.places.specs.Places.{textOf}
 use Rattle.grammar.specs.Names.{withDashes, Named}
@@ -32,6 +35,10 @@ NameAgain = (s : List ℕ) (r : ResTableConfig) → Named s r → textOf r ≡ s
 -- a name's record, written and read back, is the same record, of 64 bytes
 abbrev pub RecordAgain : Type 0
 RecordAgain = (s : List ℕ) (r : ResTableConfig) → Named s r → parseOf (bytesWritten r) ≡ parseTook 64 r
+
+-- a reader of the default age holds no name's record back (02, K7)
+abbrev pub NameShown : Type 0
+NameShown = (s : List ℕ) (r : ResTableConfig) → Named s r → heldBack defaultAge (bytesWritten r) ≡ false
 
 -- the grammar has a name
 pub record InGrammar (s : List ℕ) : Type 0 where

@@ -19,4 +19,4 @@ isAge n = among n ages
 
 -- the age of a reader that is given none
 abbrev pub defaultAge : ℕ
-defaultAge = 64
+defaultAge = 52

@@ -45,7 +45,7 @@ impl Age {
     pub const A64: Age = Age(64);
 
     // The age of a reader that is given none.
-    pub const DEFAULT: Age = Age(64);
+    pub const DEFAULT: Age = Age::A52;
 
     // Whether the age is among the twelve, which are the ends of the fields from `screen_type` on.
     pub fn is_age(self) -> bool

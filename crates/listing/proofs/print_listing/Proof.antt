@@ -9,8 +9,8 @@ pub print-listing-spec : {M : Type 1} → statement M
 print-listing-spec =
     tie.close
     (tie.spec
-    (λ bytes out₀ cursor₀ turns₀ out cursor turns. length out ≡ length out₀)
-    (λ bytes out₀ cursor₀ turns₀ out cursor turns. turns)
+    (λ bytes age out₀ cursor₀ turns₀ out cursor turns. length out ≡ length out₀)
+    (λ bytes age out₀ cursor₀ turns₀ out cursor turns. turns)
     (λ c κs. tt) (λ c. search needs) (λ c κs. tt) (λ c. search needs) (λ c κs. tt) (λ c. search needs)
     (λ c. search needs) (λ c. search needs) (λ c κs. tt) (λ c. search needs) (λ c. search needs) (λ c. search needs)
     (λ c. search needs) (λ c. search needs) (λ c. search needs) (λ c. search needs))
