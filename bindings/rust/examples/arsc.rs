@@ -1,6 +1,6 @@
 //! Lists the type chunks of a `resources.arsc`: offset in the file, id, entry count, and the text of the configuration for a reader of
-//! the age, 52 where none is given, or why it is refused. A text is escaped as in a listing: `%` and two digits for a byte that isn't a printable ASCII character or is
-//! `%`, and `%-` where it is empty. Where a chunk's head is refused, `-` stands for id and count.
+//! the age, 52 where none is given, or why it is refused. A text is escaped as in a listing: `%` and two digits for a byte that isn't
+//! a printable ASCII character or is `%`, and `%-` where it is empty. Where a chunk's head is refused, `-` stands for id and count.
 //!
 //!   cargo run --example arsc FILE [AGE]
 //!

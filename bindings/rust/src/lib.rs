@@ -18,7 +18,8 @@ use std::fmt;
 /// The twelve ages: the numbers of bytes up to which a reader may know a record.
 pub const AGES: [u32; 12] = [16, 20, 24, 28, 32, 36, 40, 48, 52, 53, 61, 64];
 
-/// The age that a listing takes where none is named. Most devices know a record up to there; the functions of this crate always take an age.
+/// The age that a listing takes where none is named: most reporters' tablets know a record up to there. The functions of this crate
+/// always take an age.
 pub const DEFAULT_AGE: u32 = 52;
 
 /// How many bytes the longest text has: with as much room, [`text`], [`aged_text`] and [`type_aged_text`] never refuse with
