@@ -29,6 +29,7 @@ refusals carried =
     ∷ Refusal.WrongType
     ∷ Refusal.WrongSizes
     ∷ Refusal.NotAName carried
+    ∷ Refusal.TopBits
     ∷ []
 
 abbrev byNumber : {A : Type 0} → (ℕ → A) → (Refusal → A) → ℕ → ℕ → ℕ → A
@@ -58,6 +59,7 @@ refused-back ok bad Refusal.UndecodedCut = refl
 refused-back ok bad Refusal.WrongType = refl
 refused-back ok bad Refusal.WrongSizes = refl
 refused-back ok bad (Refusal.NotAName at) = refl
+refused-back ok bad Refusal.TopBits = refl
 
 -- answers that come back from what they tell are one where they tell the same
 pub tells-one : {A : Type 0} (tells : A → Told) (ok : ℕ → A) (bad : Refusal → A)
@@ -72,8 +74,8 @@ written-back : (a : Written) → back Written.Wrote Written.Refused (writtenTell
 written-back (Written.Wrote n) = ok-back Written.Wrote Written.Refused n
 written-back (Written.Refused why) = refused-back Written.Wrote Written.Refused why
 
--- the numbers are 1 to 11
-numbers-are : (why : Refusal) → (0 < numberOf why) × (numberOf why ≤ 11)
+-- the numbers are 1 to 12
+numbers-are : (why : Refusal) → (0 < numberOf why) × (numberOf why ≤ 12)
 numbers-are Refusal.TooFewBytes = (lit< tt, lit≤ tt)
 numbers-are (Refusal.FieldCut row) = (lit< tt, lit≤ tt)
 numbers-are Refusal.NotAnAge = (lit< tt, lit≤ tt)
@@ -85,13 +87,14 @@ numbers-are Refusal.UndecodedCut = (lit< tt, lit≤ tt)
 numbers-are Refusal.WrongType = (lit< tt, lit≤ tt)
 numbers-are Refusal.WrongSizes = (lit< tt, lit≤ tt)
 numbers-are (Refusal.NotAName at) = (lit< tt, lit≤ tt)
+numbers-are Refusal.TopBits = (lit< tt, lit≤ tt)
 
 -- so no refusal has a success's number
 pub number-pos : (why : Refusal) → 0 < numberOf why
 number-pos why = numbers-are why .0
 
--- and 11 is the last
-pub number-most : (why : Refusal) → numberOf why ≤ 11
+-- and 12 is the last
+pub number-most : (why : Refusal) → numberOf why ≤ 12
 number-most why = numbers-are why .1
 
 told-same : {m n i j : ℕ} → m ≡ n → i ≡ j → _≡_ {A = Told} (record { number = m; amount = 0; carried = i }) (record { number = n; amount = 0; carried = j })

@@ -2,7 +2,7 @@
 use Prim.Native.Nat.{ℕ}
 use Rattle.answers.specs.declared.Refusal.{Refusal}
 
--- the number of each refusal in 01's table, and 02's 8 to 11
+-- the number of each refusal in 01's table, and 02's 8 to 12
 abbrev pub numberOf : Refusal → ℕ
 numberOf Refusal.TooFewBytes = 1
 numberOf (Refusal.FieldCut row) = 2
@@ -15,6 +15,7 @@ numberOf Refusal.UndecodedCut = 8
 numberOf Refusal.WrongType = 9
 numberOf Refusal.WrongSizes = 10
 numberOf (Refusal.NotAName at) = 11
+numberOf Refusal.TopBits = 12
 
 -- the number that a refusal carries beside its own: a cut field's row, the offset of a name's part, and 0 where it carries none
 abbrev pub carriedBy : Refusal → ℕ
@@ -29,3 +30,4 @@ carriedBy Refusal.UndecodedCut = 0
 carriedBy Refusal.WrongType = 0
 carriedBy Refusal.WrongSizes = 0
 carriedBy (Refusal.NotAName at) = at
+carriedBy Refusal.TopBits = 0

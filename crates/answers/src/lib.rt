@@ -28,6 +28,8 @@ pub enum Refusal {
     WrongSizes,
     // A directory name isn't in the grammar: the part at this offset is the first that ends no name.
     NotAName(usize),
+    // A number that is given for the marks in one word has a bit set from bit 28 up.
+    TopBits,
 }
 
 // What an answer says in 01's numbers. A success has number 0 and an amount: the bytes taken or written, or what its answer enum says, as
@@ -73,6 +75,7 @@ impl Refusal {
             Self::WrongType => 9,
             Self::WrongSizes => 10,
             Self::NotAName(_) => 11,
+            Self::TopBits => 12,
         }
     }
 
@@ -92,6 +95,7 @@ impl Refusal {
             Self::WrongType => 0,
             Self::WrongSizes => 0,
             Self::NotAName(at) => at,
+            Self::TopBits => 0,
         }
     }
 

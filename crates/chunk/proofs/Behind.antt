@@ -17,7 +17,8 @@ use Rattle.reading.specs.Reading.{taken, aged, fieldBy, recordBy, ifWhole, ifAg
 use Rattle.reading.proofs.FieldBytes.{record-fields}
 use Rattle.reading.proofs.Limits.{aged-is}
 use Rattle.reading.proofs.Whole.{whole-took}
-use Rattle.marking.specs.Marks.{letterOf, markBetween, markIn, lettersIn, marksOf, heldBack}
+use Rattle.mark.specs.Word.{letterOf}
+use Rattle.marking.specs.Marks.{markBetween, markIn, lettersIn, marksOf, heldBack}
 use Rattle.marking.proofs.Zeros.{drop-take}
 use Rattle.marking.proofs.Marking.{marks-length, mark-at}
 use Rattle.locale.specs.Subtags.{textReplacements}

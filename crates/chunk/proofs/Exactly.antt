@@ -13,6 +13,7 @@ use Rattle.record.specs.Ages.{isAge}
 use Rattle.reading.specs.Reading.{aged, ifAge}
 use Rattle.reading.proofs.Exactly.{age-row, gives-exactly}
 use Rattle.reading.proofs.Whole.{age-known, age-unknown}
+use Rattle.mark.specs.Word.{lettersOf}
 use Rattle.marking.specs.Marks.{lettersIn, marksOf}
 use Rattle.marking.specs.Demand1.{isHeldBack}
 use Rattle.places.specs.Places.{textOf}
@@ -53,6 +54,6 @@ text-exactly a s old =
 
 -- `chunk_marks`, of fourteen letters: 3, those, 5
 pub marks-exactly : (a : ℕ) (s old : List ℕ) → ChunkMarksRefuse a s old
-unfolding lettersIn
+unfolding lettersIn lettersOf
 marks-exactly a s old =
     rw (once a s (λ why. refused why old) _) (refuses-by refl (age-row a (chunk-row s (written-row (marksOf a (recordPart s)) old))))

@@ -9,6 +9,7 @@ use Rattle.buffer.specs.Written.{written, refused}
 use Rattle.record.specs.Ages.{isAge}
 use Rattle.reading.specs.Cut.{lacking}
 use Rattle.reading.specs.Reading.{ifAge, ifWhole}
+use Rattle.mark.specs.Word.{lettersOf}
 use Rattle.marking.specs.Marks.{heldBack, lettersIn}
 use Rattle.chunk.specs.Chunk.{ifHead, chunkTake, headOutcome, chunkText, chunkMarks}
 
@@ -43,5 +44,5 @@ pub shows :
     × (chunkText 42 (replicate 19 0) (9 ∷ []) ≡ refused Refusal.NotAnAge (9 ∷ []))
     × (chunkText 16 (headOf 40 40 ++ later) (9 ∷ []) ≡ refused Refusal.HeldBack (9 ∷ []))
     × (chunkMarks 16 (headOf 40 40 ++ small ++ replicate 4 255) (9 ∷ []) ≡ refused Refusal.ShortBuffer (9 ∷ []))
-unfolding ifHead ifWhole lacking ifAge isAge heldBack lettersIn written
+unfolding ifHead ifWhole lacking ifAge isAge heldBack lettersIn lettersOf written
 shows = (refl, refl, refl, refl, refl)

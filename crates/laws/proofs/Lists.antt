@@ -1,8 +1,8 @@
 -- Parts of a list, its elements one by one, and what holds of each element. Assumes nothing.
 use Prim.Native.Nat.{ℕ, zero, suc, _+_, _-_, _≤_, _<_, min}
 use mathlib.Core.Path.{_≡_, refl, sym, ap, _∙_}
-use mathlib.Core.List.{List, [], _∷_}
-use native.Mathlib.Nat.{add-zero, add-suc}
+use mathlib.Core.List.{List, [], _∷_, map}
+use native.Mathlib.Nat.{add-zero, add-suc, le-of-suc-le-suc, not-suc-le-zero}
 use native.Mathlib.Omega.{arith}
 use native.Mathlib.Decide.{decLe}
 use lib.ListN.{length, getD, take, drop, length-take, length-drop, drop-of-length-le}
@@ -52,6 +52,12 @@ row s i n h = sym (simp add-zero at (part-listed s i 0 (suc n) (omega arith)))
 -- a list is its elements
 pub elements : (n : ℕ) (l : List ℕ) → length l ≡ n → listed l 0 0 n ≡ l
 elements n l h = sym (part-listed l 0 0 n (omega arith)) ∙ take-all n l (omega arith)
+
+-- an element of what a function makes of each
+pub mapped-at : {A B : Type 0} (f : A → B) (l : List A) (i : ℕ) (a : A) (b : B) → i < length l → getD (map f l) i b ≡ f (getD l i a)
+mapped-at f [] i a b h = absurd (not-suc-le-zero h)
+mapped-at f (x ∷ l) zero a b h = refl
+mapped-at f (x ∷ l) (suc i) a b h = mapped-at f l i a b (le-of-suc-le-suc h)
 
 -- P holds of each element of a list
 abbrev pub Each : {A : Type 0} → (A → Type 0) → List A → Type 0

@@ -18,7 +18,8 @@ use Rattle.places.specs.Places.{placesOf, textOf}
 use Rattle.record.specs.Ages.{isAge, defaultAge}
 use Rattle.reading.specs.Cut.{lacking}
 use Rattle.reading.specs.Reading.{reads, fieldBy, recordBy, aged, ifWhole, ifAge}
-use Rattle.marking.specs.Marks.{markBetween, lettersIn, heldBack}
+use Rattle.mark.specs.Word.{lettersOf}
+use Rattle.marking.specs.Marks.{markBetween, wordIn, lettersIn, heldBack}
 use Rattle.runs.specs.Fronts.{offsetsIn, stopIn}
 use Rattle.runs.specs.Runs.{frontAt}
 use Rattle.record_line.specs.RecordLine.{visible, escaped, escapedAll, shownWords, newline, laidOut}
@@ -69,7 +70,7 @@ pub examples :
     × (lineOf 64 given (Cursor.Record 1 16) (replicate 28 7)
     ≡ record { does = wrote (ascii "1 16 0 BBBAAAAAAAAAAA %- 0" ++ newline) (replicate 28 7); goes = Cursor.Record 2 32 })
 unfolding listingOf recordLines offsetsIn stopIn frontAt lineOf lineAt after written ageLine stopLine reasonWords laidOut shownWords
-    escapedAll escaped visible lettersIn markBetween heldBack isAge ifAge ifWhole lacking aged recordBy fieldBy reads textOf placesOf
+    escapedAll escaped visible lettersIn lettersOf wordIn markBetween heldBack isAge ifAge ifWhole lacking aged recordBy fieldBy reads textOf placesOf
     sayAll say dashAfter localeWords newWords legacyWords unpacked subtagOf dropNuls keep replaced replacedBy frontOf okAt decimal
     digits replacements illFormedBy localeSubtags
 examples = (refl, refl, refl, refl, refl, refl, refl, refl, refl)

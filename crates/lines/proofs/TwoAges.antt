@@ -13,8 +13,9 @@ use Rattle.laws.proofs.Below.{each-at}
 use Rattle.record.specs.Ages.{defaultAge}
 use Rattle.record.specs.Table.{startOf, endOf, widthOf, part, allZero}
 use Rattle.reading.specs.Reading.{taken}
-use Rattle.marking.specs.declared.Mark.{Mark}
-use Rattle.marking.specs.Marks.{letterOf, markBetween, markOf, heldBack}
+use Rattle.mark.specs.declared.Mark.{Mark}
+use Rattle.mark.specs.Word.{letterOf}
+use Rattle.marking.specs.Marks.{markBetween, markOf, heldBack}
 use Rattle.marking.proofs.HeldBack.{held-exactly, unheld-zero}
 use Rattle.marking.proofs.TwoAges.{same-mark, unheld-both}
 use Rattle.lines.specs.TwoAges.{OlderMarks, LastThree, SameText, Between, OlderHolds}

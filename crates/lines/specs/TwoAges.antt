@@ -9,7 +9,7 @@ use lib.ListN.{length, getD}
 use Rattle.record.specs.Ages.{isAge, defaultAge}
 use Rattle.record.specs.Table.{endOf}
 use Rattle.reading.specs.Reading.{plain, sizeOf, taken}
-use Rattle.marking.specs.declared.Mark.{Mark}
+use Rattle.mark.specs.declared.Mark.{Mark}
 use Rattle.marking.specs.Marks.{markOf, marksOf, heldBack}
 use Rattle.locale.specs.Subtags.{textReplacements}
 use Rattle.places.specs.Places.{textOf}

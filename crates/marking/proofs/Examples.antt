@@ -1,5 +1,5 @@
 -- 01's examples 1, 10, 11 and 12 and the marks of its listing, as one table that antt computes. Assumes nothing.
-use Prim.Native.Nat.{ℕ}
+use Prim.Native.Nat.{ℕ, _+_, _*_}
 use mathlib.Core.Path.{_≡_, refl}
 use mathlib.Core.List.{List, [], _∷_, _++_}
 use lib.ListN.{replicate}
@@ -7,10 +7,11 @@ use Rattle.answers.specs.declared.Refusal.{Refusal}
 use Rattle.answers.specs.Tells.{success, refusal}
 use Rattle.buffer.specs.Ascii.{ascii}
 use Rattle.buffer.specs.Written.{written, wrote, refused}
+use Rattle.mark.specs.Word.{lettersOf}
 use Rattle.record.specs.Ages.{isAge}
 use Rattle.reading.specs.Cut.{lacking}
 use Rattle.reading.specs.Reading.{ifWhole, ifAge}
-use Rattle.marking.specs.Marks.{markBetween, lettersIn, marksOf, marksOutcome, heldBack, heldOf}
+use Rattle.marking.specs.Marks.{markBetween, wordIn, wordOf, wordTold, lettersIn, marksOf, marksOutcome, heldBack, heldOf}
 
 -- the listing's first record
 abbrev listed : List ℕ
@@ -39,11 +40,16 @@ pub examples :
     × (marksOf 64 (replicate 16 0) ≡ ascii "BBBAAAAAAAAAAA")
     × (marksOf 40 (one-byte 44 39 3) ≡ ascii "BBBBBBBBBUUUUU")
     × (marksOf 48 (one-byte 44 39 3) ≡ ascii "BBBBBBBBBAUUUU")
+    -- the same in one word, imsi lowest: 2 for F, 1 for B, 0 for A, 3 for U
+    × (wordTold 64 listed ≡ success (2 + 4 * 2 + 16 * 2))
+    × (wordOf 64 (replicate 16 0) ≡ 1 + 4 * 1 + 16 * 1)
+    × (wordTold 33 [] ≡ refusal Refusal.NotAnAge)
+    × (wordTold 64 [] ≡ refusal Refusal.TooFewBytes)
     -- 3, 1, 2, then 5
     × (marksOutcome 33 [] (7 ∷ []) ≡ refused Refusal.NotAnAge (7 ∷ []))
     × (marksOutcome 64 [] (7 ∷ []) ≡ refused Refusal.TooFewBytes (7 ∷ []))
     × (marksOutcome 64 (17 ∷ replicate 15 0) (7 ∷ []) ≡ refused Refusal.UndecodedCut (7 ∷ []))
     × (marksOutcome 64 listed (replicate 13 7) ≡ refused Refusal.ShortBuffer (replicate 13 7))
     × (marksOutcome 64 listed (replicate 15 7) ≡ wrote (ascii "FFFAAAAAAAAAAA") (replicate 15 7))
-unfolding ifWhole lacking ifAge isAge heldBack lettersIn markBetween written
-examples = (refl, refl, refl, refl, refl, refl, refl, refl, refl, refl, refl, refl, refl, refl, refl, refl, refl)
+unfolding ifWhole lacking ifAge isAge heldBack wordIn lettersIn lettersOf markBetween written
+examples = (refl, refl, refl, refl, refl, refl, refl, refl, refl, refl, refl, refl, refl, refl, refl, refl, refl, refl, refl, refl, refl)

@@ -1,6 +1,8 @@
 pub mod HeldAnswer
 pub mod Zeros
 pub mod Marking
+pub mod Former
+pub mod Word
 pub mod Answering
 pub mod HeldBack
 pub mod Exactly

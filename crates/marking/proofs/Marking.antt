@@ -1,24 +1,24 @@
 -- The cases of a mark, and the marks one by one. Assumes nothing.
-use Prim.Native.Nat.{ℕ, zero, suc, _+_, _-_, _≤_, _<_}
+use Prim.Native.Nat.{ℕ, _+_, _*_, _-_, _≤_, _<_}
 use mathlib.Core.Path.{_≡_, refl, sym, ap, _∙_}
 use mathlib.Core.Bool.{Bool, true, false, not, cond}
 use mathlib.Core.List.{List, [], _∷_, map}
-use native.Mathlib.Nat.{le-of-suc-le-suc, not-suc-le-zero}
-use native.Mathlib.Numerals.{add-one}
 use native.Mathlib.Omega.{arith}
 use native.Mathlib.Decide.{decLe}
 use lib.Dec.{eqb, leb, ltb}
-use lib.ListN.{length, getD, take}
+use lib.ListN.{length, getD, drop}
 use borrow.Author.Tests.{eqb-true, lt-ltb, le-ltb, le-leb, lt-leb}
 use Rattle.laws.proofs.Choice.{cond-not}
 use Rattle.laws.proofs.Below.{in-row}
+use Rattle.laws.proofs.Lists.{mapped-at}
+use Rattle.mark.specs.declared.Mark.{Mark}
+use Rattle.mark.specs.Word.{letterOf, bitsOf, inOneWord}
+use Rattle.mark.proofs.Words.{word-room, word-turn}
+use Rattle.mark.proofs.Letters.{letters-length, letters-are}
 use Rattle.record.specs.Table.{part, allZero, endOf}
-use Rattle.buffer.specs.Put.{Put}
-use Rattle.buffer.proofs.Putting.{put-turn}
 use Rattle.reading.specs.Reading.{reads, sizeOf, taken}
 use Rattle.reading.proofs.Limits.{reads-is}
-use Rattle.marking.specs.declared.Mark.{Mark}
-use Rattle.marking.specs.Marks.{letterOf, markBetween, markIn, lettersIn, lateBytes}
+use Rattle.marking.specs.Marks.{markBetween, markIn, wordIn, lettersIn, lateBytes}
 use Rattle.marking.proofs.Zeros.{drop-take}
 
 module _ (a t : ℕ) (s : List ℕ) (start end : ℕ) where
@@ -49,29 +49,44 @@ absent-unread s f h = ltb-leb (taken s) (endOf f) ∙ ap not (sym (reads-is f (s
         | no g ↦ let l : t < e = omega arith in rw (lt-ltb t e l, lt-leb e t l)
       ]
 
+-- the fields that are marked
+abbrev pub fields : List ℕ
+fields = 1 ∷ 2 ∷ 3 ∷ 4 ∷ 5 ∷ 6 ∷ 7 ∷ 8 ∷ 9 ∷ 10 ∷ 11 ∷ 12 ∷ 13 ∷ 14 ∷ []
+
+-- their marks
+abbrev pub marksFrom : ℕ → ℕ → List ℕ → List Mark
+marksFrom a t s = map (markIn a t s) fields
+
+-- mark i, from 0, is that of field i + 1
+pub field-mark : (a t : ℕ) (s : List ℕ) (i : ℕ) → i < 14 → getD (marksFrom a t s) i Mark.Absent ≡ markIn a t s (i + 1)
+field-mark a t s i h =
+    mapped-at (markIn a t s) fields i 0 Mark.Absent h
+    ∙ ap (markIn a t s) (eqb-true (getD fields i 0) (i + 1) (in-row 14 (λ j. eqb (getD fields j 0) (j + 1)) tt i h))
+
+-- the word of the fields behind f has room for one more mark, which is f's
+module _ (a t : ℕ) (s : List ℕ) (f word : ℕ) (l : 0 < f) (u : f ≤ 14) (e : word ≡ inOneWord (drop f (marksFrom a t s))) where
+  back : f - 1 + 1 ≡ f
+  back = omega arith
+
+  behind : word ≡ inOneWord (drop (f - 1 + 1) (marksFrom a t s))
+  behind = e ∙ ap (λ (k : ℕ). inOneWord (drop k (marksFrom a t s))) (sym back)
+
+  pub field-room : word < 67108864
+  field-room = word-room (marksFrom a t s) (f - 1) word (omega arith) behind (omega arith)
+
+  pub field-turn : (bits : ℕ) → bits ≡ bitsOf (markIn a t s f) → word * 4 + bits ≡ inOneWord (drop (f - 1) (marksFrom a t s))
+  field-turn bits b =
+      let mark : getD (marksFrom a t s) (f - 1) Mark.Absent ≡ markIn a t s f = field-mark a t s (f - 1) (omega arith) ∙ ap (markIn a t s) back in
+      ap (λ (n : ℕ). word * 4 + n) (b ∙ sym (ap bitsOf mark)) ∙ word-turn (marksFrom a t s) (f - 1) word (omega arith) behind
+
 -- fourteen letters
 pub marks-length : (a t : ℕ) (s : List ℕ) → length (lettersIn a t s) ≡ 14
 unfolding lettersIn
-marks-length a t s = refl
-
-map-at : (g : ℕ → ℕ) (l : List ℕ) (i : ℕ) → i < length l → getD (map g l) i 0 ≡ g (getD l i 0)
-map-at g [] i h = absurd (not-suc-le-zero h)
-map-at g (x ∷ l) zero h = refl
-map-at g (x ∷ l) (suc i) h = map-at g l i (le-of-suc-le-suc h)
-
-abbrev fields : List ℕ
-fields = 1 ∷ 2 ∷ 3 ∷ 4 ∷ 5 ∷ 6 ∷ 7 ∷ 8 ∷ 9 ∷ 10 ∷ 11 ∷ 12 ∷ 13 ∷ 14 ∷ []
+marks-length a t s = letters-length (wordIn a t s)
 
 -- letter i, from 0, is that of field i + 1
 pub mark-at : (a t : ℕ) (s : List ℕ) (i : ℕ) → i < 14 → getD (lettersIn a t s) i 0 ≡ letterOf (markIn a t s (i + 1))
-unfolding lettersIn
+unfolding lettersIn wordIn
 mark-at a t s i h =
-    map-at (λ f. letterOf (markIn a t s f)) fields i h
-    ∙ ap (λ (f : ℕ). letterOf (markIn a t s f)) (eqb-true (getD fields i 0) (i + 1) (in-row 14 (λ j. eqb (getD fields j 0) (j + 1)) tt i h))
-
--- one more letter is put
-pub mark-next : (a t : ℕ) (s : List ℕ) {old m n : List ℕ} {at o r : ℕ} (i v : ℕ) → i < 14 → v ≡ letterOf (markIn a t s (i + 1))
-    → Put old at (take i (lettersIn a t s)) m o → Put m o (v ∷ []) n r → Put old at (take (i + 1) (lettersIn a t s)) n r
-mark-next a t s i v h e p q =
-    let l : i < length (lettersIn a t s) = omega (arith, marks-length a t s) in
-    rw add-one (put-turn (lettersIn a t s) i l p (rw (mark-at a t s i h, ← e) q))
+    ap (λ (l : List ℕ). getD l i 0) (letters-are (marksFrom a t s) refl) ∙ mapped-at letterOf (marksFrom a t s) i Mark.Absent 0 h
+    ∙ ap letterOf (field-mark a t s i h)

@@ -6,10 +6,11 @@ use mathlib.Core.List.{List}
 use native.Mathlib.Omega.{arith}
 use borrow.Author.Tests.{lt-ltb}
 use lib.Dec.{ltb}
+use Rattle.mark.specs.declared.Mark.{Mark}
+use Rattle.mark.specs.Word.{letterOf}
 use Rattle.record.specs.Table.{part, allZero, startOf, endOf, widthOf}
 use Rattle.reading.specs.Reading.{reads}
-use Rattle.marking.specs.declared.Mark.{Mark}
-use Rattle.marking.specs.Marks.{letterOf, markBetween, markOf}
+use Rattle.marking.specs.Marks.{markBetween, markOf}
 use Rattle.marking.proofs.Marking.{absent-unread}
 
 never : (past blank : Bool) → cond past Mark.Unknown (cond blank Mark.Blank Mark.Filled) ≡ Mark.Absent → ⊥

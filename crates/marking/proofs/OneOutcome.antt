@@ -10,12 +10,21 @@ use Rattle.answers.proofs.OneToOne.{back, ok-back, refused-back, tells-one}
 use Rattle.buffer.specs.Written.{outcome}
 use Rattle.buffer.proofs.OneOutcome.{one-outcome}
 use Rattle.marking.specs.declared.Held.{Held}
-use Rattle.marking.specs.Marks.{heldTells, lateBytes, marksOutcome}
+use Rattle.marking.specs.declared.Marked.{Marked}
+use Rattle.marking.specs.Marks.{heldTells, lateBytes, markedTells, marksOutcome}
 
 -- of `marks`: the answer and the lent bytes are fixed
 pub one-marks : (a : ℕ) (bytes old : List ℕ) (r s : Written) (x y : List ℕ)
     → outcome r x ≡ marksOutcome a bytes old → outcome s y ≡ marksOutcome a bytes old → (r ≡ s) × (x ≡ y)
 one-marks a bytes old r s x y p q = one-outcome p q
+
+-- of `marks_word`: the answer is fixed
+marked-back : (r : Marked) → back Marked.Word Marked.Refused (markedTells r) ≡ r
+marked-back (Marked.Word word) = ok-back Marked.Word Marked.Refused word
+marked-back (Marked.Refused why) = refused-back Marked.Word Marked.Refused why
+
+pub one-word : {t : Told} (r s : Marked) → markedTells r ≡ t → markedTells s ≡ t → r ≡ s
+one-word r s p q = tells-one markedTells Marked.Word Marked.Refused marked-back r s (p ∙ sym q)
 
 -- the answer of an amount
 answered : ℕ → Held
@@ -33,9 +42,12 @@ held-back (Held.Refused why) = refused-back answered Held.Refused why
 pub one-held : {t : Told} (r s : Held) → heldTells r ≡ t → heldTells s ≡ t → r ≡ s
 one-held r s p q = tells-one heldTells answered Held.Refused held-back r s (p ∙ sym q)
 
--- of `late_bytes` and of `told`: the answer is its definition's value at the input
+-- of `late_bytes` and of each `told`: the answer is its definition's value at the input
 pub one-late : (s : List ℕ) (n a : ℕ) (r t : Bool) → r ≡ lateBytes s n a → t ≡ lateBytes s n a → r ≡ t
 one-late s n a r t p q = one-answer (lateBytes s n) a r t p q
+
+pub one-told-word : (marked : Marked) (r t : Told) → r ≡ markedTells marked → t ≡ markedTells marked → r ≡ t
+one-told-word marked r t p q = one-answer markedTells marked r t p q
 
 pub one-told : (held : Held) (r t : Told) → r ≡ heldTells held → t ≡ heldTells held → r ≡ t
 one-told held r t p q = one-answer heldTells held r t p q

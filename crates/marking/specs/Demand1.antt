@@ -10,7 +10,7 @@ use Rattle.answers.specs.Demand1.{Condition, Exactly}
 use Rattle.buffer.specs.Demand1.{shorterThan, Refuses}
 use Rattle.reading.specs.Reading.{taken}
 use Rattle.reading.specs.Demand1.{fewerThan16, fewerThanSize, notAnAge}
-use Rattle.marking.specs.Marks.{marksOutcome, heldBack, heldOf}
+use Rattle.marking.specs.Marks.{wordTold, marksOutcome, heldBack, heldOf}
 
 -- 4: held back
 abbrev pub isHeldBack : ℕ → List ℕ → Condition
@@ -26,6 +26,10 @@ pub record Late (a : ℕ) (s : List ℕ) : Type 0 where
 -- a record is held back exactly when there is such a byte; bytes in no field and the tail past 64 count like any others
 abbrev pub HeldWhenLate : ℕ → List ℕ → Type 0
 HeldWhenLate a s = (heldBack a s ≡ true) ↔ Late a s
+
+-- `marks_word`: 3, 1, 2 or 8
+abbrev pub WordRefuses : ℕ → List ℕ → Type 0
+WordRefuses a s = Exactly (notAnAge a ∷ fewerThan16 s ∷ fewerThanSize s ∷ []) (wordTold a s)
 
 -- `marks` and, from an offset on, `marks_at`: 3, 1, 2 or 8, 5
 abbrev pub MarksRefuse : ℕ → List ℕ → List ℕ → Type 0

@@ -3,7 +3,9 @@ use answers::Refusal;
 use answers::Taken;
 use answers::Told;
 use answers::Written;
-use buffer::put_byte;
+use mark::Mark;
+use mark::put_letters;
+use mark::write_letters;
 use reading::lesser;
 use reading::take;
 use record::Age;
@@ -11,31 +13,23 @@ use record::ENDS;
 use record::STARTS;
 ghost use mathlib.Core.Path.{_≡_};
 ghost use Rattle.buffer.specs.Put.{Put};
-ghost use Rattle.buffer.specs.Written.{outcome, written};
-ghost use Rattle.marking.specs.Marks.{heldOf, heldTells, lateBytes, letterOf, lettersIn, markBetween, marksOutcome};
+ghost use Rattle.buffer.specs.Written.{outcome};
+ghost use Rattle.marking.specs.Marks.{heldOf, heldTells, lateBytes, lettersIn, markBetween, markedTells, marksOutcome, wordIn, wordTold};
 
-// What a reader of an age can say of a field.
-pub enum Mark {
-    // The field ends past the age.
-    Unknown,
-    // The record doesn't hold it.
-    Absent,
-    // Its bytes are all zero.
-    Blank,
-    // One of its bytes isn't zero.
-    Filled,
+// The answer of a call that gives a record's fourteen marks in one word.
+pub enum Marked {
+    Word(u32),
+    Refused(Refusal),
 }
 
-impl Mark {
-    // The mark's letter.
-    pub fn letter(self) -> u8
-        ensures { λ r. ⌜ r ≡ letterOf self ⌝ }
+impl Marked {
+    // What the answer tells in 01's numbers.
+    pub fn told(self) -> Told
+        ensures { λ r. ⌜ r ≡ markedTells self ⌝ }
     {
         match self {
-            Self::Unknown => b'U',
-            Self::Absent => b'A',
-            Self::Blank => b'B',
-            Self::Filled => b'F',
+            Self::Word(word) => Told::success(word as usize),
+            Self::Refused(why) => why.told(),
         }
     }
 }
@@ -111,42 +105,48 @@ fn mark_of(bytes: &[u8], t: usize, age: usize, start: usize, end: usize) -> Mark
     }
 }
 
+// The fourteen marks of a record of t bytes at the front of bytes, in one word: the last field's first, each two bits below it.
+fn word_in(bytes: &[u8], t: usize, age: usize) -> u32
+    ensures { λ r. ⌜ r ≡ wordIn age t (now (bytes .entry)) ⌝ }
+{
+    let starts = STARTS;
+    let ends = ENDS;
+    let mut word = 0;
+    let mut f = 14;
+    while f > 0 {
+        let mark = mark_of(bytes, t, age, starts[f], ends[f]);
+        f -= 1;
+        word = word * 4 + mark.bits();
+    }
+    word
+}
+
+// Gives the fourteen marks of the record at the front of bytes, for a reader of an age, in one word.
+pub fn marks_word(bytes: &[u8], age: Age) -> Marked
+    ensures { λ r. ⌜ markedTells r ≡ wordTold (age .0) (now (bytes .entry)) ⌝ }
+{
+    if !age.is_age() {
+        return Marked::Refused(Refusal::NotAnAge);
+    }
+    match take(bytes) {
+        Taken::Took(n) => Marked::Word(word_in(bytes, n, age.0 as usize)),
+        Taken::Refused(why) => Marked::Refused(why),
+    }
+}
+
 // Puts the letters of the fourteen marks of a record of t bytes at the front of bytes. It refuses nothing.
 pub fn put_marks(bytes: &[u8], t: usize, age: usize, at: usize, out: &mut [u8]) -> usize
     ensures { λ r. ⌜ Put (now (out .entry)) at (lettersIn age t (now (bytes .entry))) (now (out .exit)) r ⌝ }
 {
-    let starts = STARTS;
-    let ends = ENDS;
-    let mut o = at;
-    let mut i = 0;
-    while i < 14 {
-        let letter = mark_of(bytes, t, age, starts[i + 1], ends[i + 1]).letter();
-        o = put_byte(letter, o, out);
-        i += 1;
-    }
-    o
+    put_letters(word_in(bytes, t, age), at, out)
 }
 
-// Writes the letters of the fourteen marks of a record of t bytes at the front of bytes.
-fn write_marks(bytes: &[u8], t: usize, age: usize, out: &mut [u8]) -> Written
-    ensures { λ r. ⌜ outcome r (now (out .exit)) ≡ written (lettersIn age t (now (bytes .entry))) (now (out .entry)) ⌝ }
-{
-    if out.len() < 14 {
-        return Written::Refused(Refusal::ShortBuffer);
-    }
-    put_marks(bytes, t, age, 0, out);
-    Written::Wrote(14)
-}
-
-// Writes the fourteen marks of the record at the front of bytes, for a reader of an age.
+// Writes the letters of the fourteen marks of the record at the front of bytes, for a reader of an age.
 pub fn marks(bytes: &[u8], age: Age, out: &mut [u8]) -> Written
     ensures { λ r. ⌜ outcome r (now (out .exit)) ≡ marksOutcome (age .0) (now (bytes .entry)) (now (out .entry)) ⌝ }
 {
-    if !age.is_age() {
-        return Written::Refused(Refusal::NotAnAge);
-    }
-    match take(bytes) {
-        Taken::Took(n) => write_marks(bytes, n, age.0 as usize, out),
-        Taken::Refused(why) => Written::Refused(why),
+    match marks_word(bytes, age) {
+        Marked::Word(word) => write_letters(word, out),
+        Marked::Refused(why) => Written::Refused(why),
     }
 }

@@ -33,6 +33,7 @@ former Refusal.UndecodedCut = formerTwo
 former Refusal.WrongType = Refusal.WrongType
 former Refusal.WrongSizes = Refusal.WrongSizes
 former (Refusal.NotAName at) = Refusal.NotAName at
+former Refusal.TopBits = Refusal.TopBits
 
 -- what is lacking was 2
 former-lacking : (n size : ℕ) → former (lacking n size) ≡ formerTwo

@@ -18,7 +18,8 @@ use Rattle.places.specs.Places.{placesOf, textOf}
 use Rattle.record.specs.Ages.{isAge}
 use Rattle.reading.specs.Cut.{lacking}
 use Rattle.reading.specs.Reading.{reads, fieldBy, recordBy, aged, ifWhole, ifAge}
-use Rattle.marking.specs.Marks.{markBetween, lettersIn, heldBack}
+use Rattle.mark.specs.Word.{lettersOf}
+use Rattle.marking.specs.Marks.{markBetween, wordIn, lettersIn, heldBack}
 use Rattle.record_line.specs.RecordLine.{visible, escaped, escapedAll, shownWords, newline, laidOut, recordLine, recordLineOf}
 
 -- language FF FF: a text of nine bytes past 0x7E
@@ -35,7 +36,7 @@ pub examples :
     × (recordLineOf 64 0 0 (17 ∷ replicate 15 0) (7 ∷ []) ≡ refused Refusal.UndecodedCut (7 ∷ []))
     × (recordLineOf 64 1 16 (replicate 16 0) (replicate 26 7) ≡ refused Refusal.ShortBuffer (replicate 26 7))
     × (recordLineOf 64 1 16 (replicate 16 0) (replicate 28 7) ≡ wrote (ascii "1 16 0 BBBAAAAAAAAAAA %- 0" ++ newline) (replicate 28 7))
-unfolding laidOut shownWords escapedAll escaped visible written lettersIn markBetween heldBack isAge ifAge ifWhole lacking aged recordBy
+unfolding laidOut shownWords escapedAll escaped visible written lettersIn lettersOf wordIn markBetween heldBack isAge ifAge ifWhole lacking aged recordBy
     fieldBy reads textOf placesOf sayAll say dashAfter localeWords newWords legacyWords unpacked subtagOf dropNuls keep replaced
     replacedBy replacements illFormedBy localeSubtags frontOf okAt decimal digits
 examples = (refl, refl, refl, refl, refl, refl, refl)

@@ -13,8 +13,9 @@ use Rattle.laws.proofs.Below.{in-row}
 use Rattle.buffer.specs.Ascii.{ascii}
 use Rattle.buffer.specs.Decimal.{digits, decimal}
 use Rattle.reading.specs.Reading.{aged, sizeOf, taken}
-use Rattle.marking.specs.Marks.{heldBack, letterOf, markIn, lettersIn}
-use Rattle.marking.specs.declared.Mark.{Mark}
+use Rattle.mark.specs.declared.Mark.{Mark}
+use Rattle.mark.specs.Word.{letterOf, marksIn, lettersOf}
+use Rattle.marking.specs.Marks.{heldBack, wordIn, lettersIn}
 use Rattle.places.specs.Places.{textOf}
 use Rattle.record_line.specs.RecordLine.{hexDigits, hexDigit, visible, escaped, escapedAll, shownWords, shownUnless, space, laidOut, recordLine}
 use Rattle.record_line.specs.Ended.{Unbroken, none, more, Ended}
@@ -64,13 +65,13 @@ mark Mark.Absent e = omega arith
 mark Mark.Blank e = omega arith
 mark Mark.Filled e = omega arith
 
-marked : (a t : ℕ) (s fs : List ℕ) → Unbroken (map (λ f. letterOf (markIn a t s f)) fs)
-marked a t s [] = none
-marked a t s (f ∷ fs) = more (mark (markIn a t s f)) (marked a t s fs)
+marked : (ms : List Mark) → Unbroken (map letterOf ms)
+marked [] = none
+marked (m ∷ ms) = more (mark m) (marked ms)
 
 marks : (a t : ℕ) (s : List ℕ) → Unbroken (lettersIn a t s)
-unfolding lettersIn
-marks a t s = marked a t s (1 ∷ 2 ∷ 3 ∷ 4 ∷ 5 ∷ 6 ∷ 7 ∷ 8 ∷ 9 ∷ 10 ∷ 11 ∷ 12 ∷ 13 ∷ 14 ∷ [])
+unfolding lettersIn lettersOf
+marks a t s = marked (marksIn 14 (wordIn a t s))
 
 -- a byte that is shown: as it is, it is past 0x20; else by its digits
 digit : (n : ℕ) → hexDigit n ≡ 10 → ⊥

@@ -8,7 +8,8 @@ use Rattle.buffer.specs.Ascii.{ascii}
 use Rattle.buffer.specs.Decimal.{decimal}
 use Rattle.buffer.specs.Written.{Outcome, written, refused}
 use Rattle.reading.specs.Reading.{aged, sizeOf, ifWhole, ifAge}
-use Rattle.marking.specs.Marks.{letter, heldBack, marksOf}
+use Rattle.mark.specs.Word.{letter}
+use Rattle.marking.specs.Marks.{heldBack, marksOf}
 use Rattle.locale.specs.Subtags.{textReplacements}
 use Rattle.places.specs.Places.{textOf}
 

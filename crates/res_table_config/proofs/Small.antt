@@ -22,8 +22,11 @@ use Rattle.record.proofs.Bytes.{by-offset}
 use Rattle.reading.specs.Reading.{ifWhole, ifAge, takeOf, plain, aged, taken}
 use Rattle.reading.proofs.CutExactly.{carried-most}
 use Rattle.reading.proofs.Whole.{taking, takes, refuses, took-says, took-whole, refused-whole}
-use Rattle.marking.specs.Marks.{marksOf, marksOutcome, heldBack}
+use Rattle.mark.specs.Word.{topBits, lettersOf, lettersOutcome}
+use Rattle.mark.proofs.Letters.{letters-length}
+use Rattle.marking.specs.Marks.{marksOf, wordOf, wordTold, marksOutcome, heldBack}
 use Rattle.marking.proofs.Marking.{marks-length}
+use Rattle.marking.proofs.Word.{word-small}
 use Rattle.places.specs.Places.{textOf}
 use Rattle.text.specs.Counted.{replacementsOf}
 use Rattle.text.specs.Text.{plainText, agedText}
@@ -104,6 +107,17 @@ replaced-small a s bytes =
     by-age Small _ _ refusal-small a
     (by-whole Small _ _ refusal-small s
     (λ whole. chosen Small (heldBack a s) (refusal-small Refusal.HeldBack (lit< tt)) (success-small _ (omega (arith, aged-most a s bytes)))))
+
+-- of marks in one word: it is below 2^28
+pub word-told-small : (a : ℕ) (s : List ℕ) → Small (wordTold a s)
+word-told-small a s =
+    by-age Small _ _ refusal-small a
+    (by-whole Small _ _ refusal-small s (λ whole. success-small (wordOf a s) (omega (arith, word-small a (taken s) s))))
+
+-- of the letters of a word: there are fourteen
+pub letters-small : (word : ℕ) (old : List ℕ) → Small (lettersOutcome word old .tells)
+letters-small word old =
+    chosen Tells (topBits word) (refusal-small Refusal.TopBits (lit< tt)) (written-small (lettersOf word) old (omega (arith, letters-length word)))
 
 -- of marks: there are fourteen
 pub marks-small : (a : ℕ) (s old : List ℕ) → Small (marksOutcome a s old .tells)

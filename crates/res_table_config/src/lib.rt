@@ -1,5 +1,5 @@
-// The C face: eleven calls on numbers and byte slices, for the intake tool: six on records, one on directory names, four on type chunks. A
-// slice arrives as a pointer and then a length.
+// The C face: thirteen calls on numbers and byte slices, for the intake tool: seven on records, one on the marks in one word, one on directory
+// names, four on type chunks. A slice arrives as a pointer and then a length.
 //
 // Each answers one number: 01's number times 2^32, and the amount of a success or what a refusal carries. So a success is below 2^32,
 // and of these calls' refusals two have more than their number: 2 the row of the field that is cut, 11 the offset of a part. A refusal
@@ -9,7 +9,9 @@ use chunk::chunk_head;
 use chunk::chunk_marks;
 use chunk::chunk_text;
 use chunk::take_chunk;
+use mark::write_letters;
 use marking::marks;
+use marking::marks_word;
 use names::write_name;
 use order::cmp;
 use reading::parse;
@@ -20,7 +22,8 @@ use text::plain_text;
 use text::replacements;
 ghost use mathlib.Core.Path.{_≡_};
 ghost use Rattle.chunk.specs.Chunk.{chunkMarks, chunkTake, chunkText, headOutcome};
-ghost use Rattle.marking.specs.Marks.{marksOutcome};
+ghost use Rattle.mark.specs.Word.{lettersOutcome};
+ghost use Rattle.marking.specs.Marks.{marksOutcome, wordTold};
 ghost use Rattle.names.specs.Named.{nameWritten};
 ghost use Rattle.reading.specs.Reading.{takeOf};
 ghost use Rattle.record.specs.Table.{Bytes};
@@ -84,12 +87,30 @@ pub extern "C" fn res_table_config_replaced(bytes: &[u8], age: u32) -> u64
     packed(answer.told())
 }
 
-// Writes the fourteen marks of the record at the front of bytes, for a reader of an age.
+// Writes the letters of the fourteen marks of the record at the front of bytes, for a reader of an age.
 #[no_mangle]
 pub extern "C" fn res_table_config_marks(bytes: &[u8], age: u32, out: &mut [u8]) -> u64
     ensures { λ r. ⌜ answerOutcome r (now (out .exit)) ≡ marksOutcome age (now (bytes .entry)) (now (out .entry)) ⌝ }
 {
     let answer = marks(bytes, Age(age), out);
+    packed(answer.told())
+}
+
+// The fourteen marks of the record at the front of bytes, for a reader of an age, in one word.
+#[no_mangle]
+pub extern "C" fn res_table_config_marks_word(bytes: &[u8], age: u32) -> u64
+    ensures { λ r. ⌜ answerTells r ≡ wordTold age (now (bytes .entry)) ⌝ }
+{
+    let answer = marks_word(bytes, Age(age));
+    packed(answer.told())
+}
+
+// Writes the letters of the fourteen marks of a word.
+#[no_mangle]
+pub extern "C" fn res_table_config_marks_letters(word: u32, out: &mut [u8]) -> u64
+    ensures { λ r. ⌜ answerOutcome r (now (out .exit)) ≡ lettersOutcome word (now (out .entry)) ⌝ }
+{
+    let answer = write_letters(word, out);
     packed(answer.told())
 }
 

@@ -13,7 +13,8 @@ use Rattle.record.specs.Ages.{isAge}
 use Rattle.record.specs.Table.{endOf}
 use Rattle.reading.specs.Reading.{ParseOutcome, parseOf, plain, aged, taken}
 use Rattle.reading.proofs.Whole.{whole-took, age-known}
-use Rattle.marking.specs.Marks.{marksOutcome, letterOf, marksOf, markOf, heldBack}
+use Rattle.mark.specs.Word.{letterOf}
+use Rattle.marking.specs.Marks.{marksOutcome, marksOf, markOf, heldBack}
 use Rattle.marking.proofs.Marking.{marks-length, mark-at}
 use Rattle.marking.proofs.TwoAges.{same-mark, unheld-later}
 use Rattle.marking.proofs.HeldBack.{held-exactly, unheld-zero}

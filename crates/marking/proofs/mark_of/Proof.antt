@@ -4,7 +4,7 @@ use mathlib.Core.Bool.{Bool, cond}
 use native.Mathlib.Omega.{arith}
 use borrow.Author.Needs.{needs}
 use denote.Ref.{now}
-use Rattle.marking.specs.declared.Mark.{Mark}
+use Rattle.mark.specs.declared.Mark.{Mark}
 use Rattle.marking.proofs.Marking.{mark-unknown, mark-absent, mark-held}
 use Rattle.marking.proofs.mark_of.Statement.{statement}
 use Rattle.marking.proofs.mark_of.Tie as tie

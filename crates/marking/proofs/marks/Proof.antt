@@ -1,47 +1,28 @@
--- 3, then the refusals of `take`, then the marks are written. Assumes nothing.
+-- The letters of the word that is given, or its refusal. Assumes nothing.
 use mathlib.Core.Path.{_≡_, sym, ap, _∙_}
 use borrow.Author.Needs.{needs}
-use borrow.Author.Tests.{not-true, not-false}
 use denote.Ref.{now}
-use Rattle.answers.specs.Tells.{takenTells}
-use Rattle.reading.proofs.Whole.{age-unknown, took-says}
-use Rattle.marking.proofs.Answering.{gives, refuses}
+use Rattle.marking.specs.declared.Marked.{Marked}
+use Rattle.marking.specs.Marks.{markedTells}
+use Rattle.marking.proofs.Word.{marks-by}
 use Rattle.marking.proofs.marks.Statement.{statement}
 use Rattle.marking.proofs.marks.Tie as tie
 
 returns : tie.Need-returns
-returns c = sym (age-unknown _ _ _ (sym (not-true _ (c .if1 .taken)) ∙ c .before .is-age .ensures))
+returns c =
+    let write = c .before .before in
+    let word = write .before .before .before in
+    let given = word .before .before in
+    let a = given .before .before .before .args in
+    write .write-letters .ensures
+    ∙ sym (marks-by (a .age .0) (now (a .bytes)) (now (a .out)) (Marked.Word (word .word .given .0 .0)) (sym (ap markedTells (word .word .given .1)) ∙ given .marks-word .ensures))
 
 returns-2 : tie.Need-returns-2
 returns-2 c =
-    let write = c .before .before in
-    let write-marks-arg = write .before in
-    let took = write-marks-arg .before .before .before in
-    let taking = took .before .before in
-    let age = taking .before in
-    let is-age = age .before in
-    let start = is-age .before .before .before in
-    let s = now (start .args .bytes) in
-    let n = took .n .given in
-    let told = sym (ap takenTells (n .1)) ∙ taking .take .ensures in
-    rw (gives _ s _ _ (sym (not-false _ (age .if1 .left)) ∙ is-age .is-age .ensures) (n .0 .0) told, ← took-says s (n .0 .0) told .0)
-    (write .write-marks .ensures)
-
-returns-3 : tie.Need-returns-3
-returns-3 c =
     let refused = c .before in
-    let taking = refused .before .before in
-    let age = taking .before in
-    let is-age = age .before in
-    let start = is-age .before .before .before in
-    let s = now (start .args .bytes) in
-    let w = refused .why .given in
-    sym (refuses _ s _ _ (sym (not-false _ (age .if1 .left)) ∙ is-age .is-age .ensures) (w .0 .0)
-    (sym (ap takenTells (w .1)) ∙ taking .take .ensures))
+    let given = refused .before .before in
+    let a = given .before .before .before .args in
+    sym (marks-by (a .age .0) (now (a .bytes)) (now (a .out)) (Marked.Refused (refused .why .given .0 .0)) (sym (ap markedTells (refused .why .given .1)) ∙ given .marks-word .ensures))
 
 pub marks-spec : {M : Type 1} → statement M
-marks-spec =
-    tie.close
-    (tie.spec
-    (λ c κs. tt) returns (λ c κs. tt) (λ c. search needs) (λ c. search needs) (λ c κs. search needs) (λ c. search needs) (λ c. search needs)
-    returns-2 returns-3)
+marks-spec = tie.close (tie.spec (λ c κs. tt) (λ c. search needs) (λ c κs. tt) (λ c. search needs) (λ c. search needs) returns returns-2)

@@ -1,0 +1,3 @@
+pub mod Word
+pub mod Demand1
+pub mod Claims
