@@ -15,7 +15,7 @@ use Rattle.mark.specs.declared.Mark.{Mark}
 use Rattle.mark.specs.Word.{letterOf, bitsOf, inOneWord}
 use Rattle.mark.proofs.Words.{word-room, word-turn}
 use Rattle.mark.proofs.Letters.{letters-length, letters-are}
-use Rattle.record.specs.Table.{part, allZero, endOf}
+use Rattle.record.specs.Table.{part, allZero, startOf, endOf}
 use Rattle.reading.specs.Reading.{reads, sizeOf, taken}
 use Rattle.reading.proofs.Limits.{reads-is}
 use Rattle.marking.specs.Marks.{markBetween, markIn, wordIn, lettersIn, lateBytes}
@@ -48,6 +48,13 @@ absent-unread s f h = ltb-leb (taken s) (endOf f) ∙ ap not (sym (reads-is f (s
         | yes g ↦ rw (le-ltb t e g, le-leb e t g)
         | no g ↦ let l : t < e = omega arith in rw (lt-ltb t e l, lt-leb e t l)
       ]
+
+-- a field starts where the one before it ends
+pub mark-there : (a t : ℕ) (s : List ℕ) (f : ℕ) → 0 < f → f ≤ 14 → markBetween a t s (endOf (f - 1)) (endOf f) ≡ markIn a t s f
+mark-there a t s f l u =
+    let e : f - 1 + 1 ≡ f = omega arith in
+    let row = in-row 14 (λ g. eqb (endOf g) (startOf (g + 1))) tt (f - 1) (omega arith) in
+    ap (λ (start : ℕ). markBetween a t s start (endOf f)) (eqb-true (endOf (f - 1)) (startOf (f - 1 + 1)) row ∙ ap startOf e)
 
 -- the fields that are marked
 abbrev pub fields : List ℕ

@@ -10,7 +10,6 @@ use reading::lesser;
 use reading::take;
 use record::Age;
 use record::ENDS;
-use record::STARTS;
 ghost use mathlib.Core.Path.{_≡_};
 ghost use Rattle.buffer.specs.Put.{Put};
 ghost use Rattle.buffer.specs.Written.{outcome};
@@ -105,18 +104,18 @@ fn mark_of(bytes: &[u8], t: usize, age: usize, start: usize, end: usize) -> Mark
     }
 }
 
-// The fourteen marks of a record of t bytes at the front of bytes, in one word: the last field's first, each two bits below it.
+// The fourteen marks of a record of t bytes at the front of bytes, in one word, from the last field's on. A field starts where the one before
+// it ends.
 fn word_in(bytes: &[u8], t: usize, age: usize) -> u32
     ensures { λ r. ⌜ r ≡ wordIn age t (now (bytes .entry)) ⌝ }
 {
-    let starts = STARTS;
     let ends = ENDS;
     let mut word = 0;
     let mut f = 14;
     while f > 0 {
-        let mark = mark_of(bytes, t, age, starts[f], ends[f]);
-        f -= 1;
+        let mark = mark_of(bytes, t, age, ends[f - 1], ends[f]);
         word = word * 4 + mark.bits();
+        f -= 1;
     }
     word
 }

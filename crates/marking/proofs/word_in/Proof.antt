@@ -8,15 +8,15 @@ use lib.ListN.{drop}
 use Rattle.mark.specs.Word.{bitsOf, inOneWord}
 use Rattle.mark.proofs.Words.{bits-below}
 use Rattle.marking.specs.Marks.{wordIn}
-use Rattle.marking.proofs.Marking.{marksFrom, field-room, field-turn}
+use Rattle.marking.proofs.Marking.{marksFrom, mark-there, field-room, field-turn}
 use Rattle.marking.proofs.word_in.Statement.{statement}
 use Rattle.marking.proofs.word_in.Tie as tie
 
 abbrev Inv-loop : tie.InvT-loop
-Inv-loop bytes t age starts ends word₀ f₀ word f = (f ≤ 14) × (word ≡ inOneWord (drop f (marksFrom age t bytes)))
+Inv-loop bytes t age ends word₀ f₀ word f = (f ≤ 14) × (word ≡ inOneWord (drop f (marksFrom age t bytes)))
 
 abbrev μ-loop : tie.MeasureT-loop
-μ-loop bytes t age starts ends word₀ f₀ word f = f
+μ-loop bytes t age ends word₀ f₀ word f = f
 
 loop-holds : tie.Need-loop-holds Inv-loop μ-loop
 loop-holds c = (omega arith, refl)
@@ -47,7 +47,7 @@ loop-again c =
     let l = turn .loop in (
       omega arith,
       field-turn (a .age) (a .t) (now (a .bytes)) (l .f) (l .word) (omega arith) (omega arith) (l .inv .1) (c .bits .result)
-          (c .bits .ensures ∙ ap bitsOf (mark .mark-of .ensures)),
+          (c .bits .ensures ∙ ap bitsOf (mark .mark-of .ensures ∙ mark-there (a .age) (a .t) (now (a .bytes)) (l .f) (omega arith) (omega arith))),
     )
 
 returns : tie.Need-returns Inv-loop μ-loop
@@ -64,9 +64,9 @@ word-in-spec =
     tie.close
     (tie.spec
     Inv-loop μ-loop loop-holds
-    (λ c. omega arith) (λ c. omega arith) (λ c. omega arith) (λ c. omega arith) (λ c κs. tt) (λ c. omega arith)
+    (λ c. omega arith) (λ c. omega arith) (λ c. omega arith) (λ c. omega arith) (λ c. omega arith) (λ c κs. tt)
     mul-word
     (λ c κs. tt)
     add-word
-    (λ c. omega arith)
+    (λ c. omega arith) (λ c. omega arith)
     loop-again returns)
