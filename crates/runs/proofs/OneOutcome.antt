@@ -2,20 +2,12 @@
 use Prim.Native.Nat.{ℕ, zero, suc}
 use mathlib.Core.Path.{_≡_, sym, ap, _∙_}
 use mathlib.Core.List.{List}
-use lib.ListN.{drop}
-use Rattle.answers.specs.declared.Counted.{Counted}
 use Rattle.answers.specs.declared.Refusal.{Refusal}
 use Rattle.answers.specs.declared.Taken.{Taken}
 use Rattle.answers.specs.declared.Told.{Told}
-use Rattle.answers.specs.declared.Written.{Written}
 use Rattle.answers.proofs.OneOutcome.{one-answer}
 use Rattle.answers.proofs.OneToOne.{back, ok-back, refused-back, tells-one}
-use Rattle.buffer.specs.Counted.{countedOutcome}
-use Rattle.buffer.specs.Written.{outcome}
-use Rattle.buffer.proofs.OneOutcome.{one-outcome, one-counted}
 use Rattle.record.specs.declared.ResTableConfig.{ResTableConfig}
-use Rattle.marking.specs.Marks.{marksOutcome}
-use Rattle.text.specs.Counted.{countedAged}
 use Rattle.runs.specs.declared.Stop.{Stop}
 use Rattle.runs.specs.declared.Step.{Step}
 use Rattle.runs.specs.declared.Stepped.{Stepped}
@@ -72,12 +64,3 @@ one-front bytes p r t e f = one-answer (frontAt bytes) p r t e f
 
 pub one-run : (bytes : List ℕ) (p : ℕ) (r t : RunEnd) → r ≡ runOf bytes p → t ≡ runOf bytes p → r ≡ t
 one-run bytes p r t e f = one-answer (runOf bytes) p r t e f
-
--- of `text_at` and `marks_at`: the answer and the lent bytes are fixed
-pub one-text : (a : ℕ) (bytes : List ℕ) (p : ℕ) (old : List ℕ) (r s : Counted) (x y : List ℕ)
-    → countedOutcome r x ≡ countedAged a (drop p bytes) old → countedOutcome s y ≡ countedAged a (drop p bytes) old → (r ≡ s) × (x ≡ y)
-one-text a bytes p old r s x y e f = one-counted e f
-
-pub one-marks : (a : ℕ) (bytes : List ℕ) (p : ℕ) (old : List ℕ) (r s : Written) (x y : List ℕ)
-    → outcome r x ≡ marksOutcome a (drop p bytes) old → outcome s y ≡ marksOutcome a (drop p bytes) old → (r ≡ s) × (x ≡ y)
-one-marks a bytes p old r s x y e f = one-outcome e f

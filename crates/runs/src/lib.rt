@@ -1,23 +1,14 @@
-// Runs of records, end to end: what stands at an offset, a step there, the walk to where a run stops, and the calls at an offset.
-use answers::Counted;
+// Runs of records, end to end: what stands at an offset, a step there, and the walk to where a run stops.
 use answers::Refusal;
 use answers::Taken;
 use answers::Told;
-use answers::Written;
-use marking::marks;
 use reading::lesser;
 use reading::read_to;
 use reading::take;
 use record::Age;
 use record::ResTableConfig;
 use record::blank;
-use text::aged_text;
 ghost use mathlib.Core.Path.{_≡_};
-ghost use lib.ListN.{drop};
-ghost use Rattle.buffer.specs.Counted.{countedOutcome};
-ghost use Rattle.buffer.specs.Written.{outcome};
-ghost use Rattle.marking.specs.Marks.{marksOutcome};
-ghost use Rattle.text.specs.Counted.{countedAged};
 ghost use Rattle.runs.specs.Fronts.{frontOf, stepTells, stopTells};
 ghost use Rattle.runs.specs.Runs.{frontAt, runOf, stepOf, stepOutcome, stepStays};
 
@@ -160,20 +151,4 @@ pub fn walk(bytes: &[u8], offset: usize) -> RunEnd
             }
         }
     }
-}
-
-// Writes the text of the record at an offset for a reader of an age.
-pub fn text_at(bytes: &[u8], offset: usize, age: Age, out: &mut [u8]) -> Counted
-    ensures { λ r. ⌜ countedOutcome r (now (out .exit)) ≡ countedAged (age .0) (drop offset (now (bytes .entry))) (now (out .entry)) ⌝ }
-{
-    let from = lesser(offset, bytes.len());
-    aged_text(&bytes[from..], age, out)
-}
-
-// Writes the fourteen marks of the record at an offset for a reader of an age.
-pub fn marks_at(bytes: &[u8], offset: usize, age: Age, out: &mut [u8]) -> Written
-    ensures { λ r. ⌜ outcome r (now (out .exit)) ≡ marksOutcome (age .0) (drop offset (now (bytes .entry))) (now (out .entry)) ⌝ }
-{
-    let from = lesser(offset, bytes.len());
-    marks(&bytes[from..], age, out)
 }

@@ -90,9 +90,9 @@ fn wrote(tag: u8, bytes: &[u8], offset: usize, age: Age, lent: &[u8], out: &mut 
 // Writes the text or the marks of the record at an offset; marks have no replacements.
 fn written(tag: u8, bytes: &[u8], offset: usize, age: Age, out: &mut [u8]) -> Counted {
     match tag {
-        41 => runs::text_at(bytes, offset, age, out),
+        41 => shown_at::text_at(bytes, offset, age, out),
         _ => {
-            let answer = runs::marks_at(bytes, offset, age, out);
+            let answer = shown_at::marks_at(bytes, offset, age, out);
             answer.counted(0)
         }
     }
