@@ -7,6 +7,7 @@
 //! `main` is C's: the kit's emulator can't bear Rust's own start-up.
 #![no_main]
 
+mod marks;
 mod named;
 #[path = "../tests/rust/shim.rs"]
 mod shim;
@@ -21,6 +22,7 @@ unsafe extern "C" {
     fn probe_blank(bytes: *const u8, len: usize) -> bool;
     fn probe_text(bytes: *const u8, len: usize, out: *mut u8, room: usize) -> usize;
     fn probe_order(a: *const u8, a_len: usize, b: *const u8, b_len: usize) -> u32;
+    fn res_table_config_marks(bytes: *const u8, len: usize, age: u32, out: *mut u8, cap: usize) -> u64;
     fn res_table_config_named(name: *const u8, len: usize, out: *mut u8, cap: usize) -> u64;
 }
 
@@ -37,7 +39,13 @@ const LONGEST: Parts = &[
     (48, &[1, 9, 0, 0, 0, 255, 255, 255, 255, 255, 255, 255, 255]),
 ];
 
-/// What is called. Each but the last goes from a record's bytes, so a parse counts in all of them, on both sides alike.
+/// mcc310-en-rUS-port-hdpi, a record of 16 bytes; the zeros behind it aren't its own.
+const LEAST: Parts = &[(0, &[16]), (4, &[54, 1]), (8, b"enUS"), (12, &[1, 0, 240])];
+
+/// The age at which the marks are asked for.
+const AGE: u32 = 64;
+
+/// What is called. The first three go from a record's bytes, so a parse counts in all of them, on both sides alike.
 #[derive(Clone, Copy)]
 enum Call {
     /// Parsing, and the record held against the one that holds nothing, so that every field is looked at.
@@ -48,10 +56,12 @@ enum Call {
     Order(usize),
     /// The record's text as the name of a directory, read into the record: by hand in Rust, which gives its bytes, beside the port's lent buffer.
     Name,
+    /// The marks of as many bytes as the record takes: by hand in Rust, which gives the letters, beside the port's lent buffer.
+    Marks,
 }
 
 /// Each case: its name, its call, and the record.
-const CASES: [(&str, Call, Parts); 7] = [
+const CASES: [(&str, Call, Parts); 10] = [
     ("parse", Call::Parse, BLANK),
     ("text-short", Call::Text, SHORT),
     ("text-middle", Call::Text, MIDDLE),
@@ -59,6 +69,9 @@ const CASES: [(&str, Call, Parts); 7] = [
     ("order-early", Call::Order(7), MIDDLE),
     ("order-late", Call::Order(63), MIDDLE),
     ("name", Call::Name, MIDDLE),
+    ("marks-16", Call::Marks, LEAST),
+    ("marks-middle", Call::Marks, MIDDLE),
+    ("marks-longest", Call::Marks, LONGEST),
 ];
 
 /// The bytes of a case's record, and those of its second one.
@@ -72,6 +85,11 @@ fn bytes_of(call: Call, parts: Parts) -> ([u8; 64], [u8; 64]) {
         second[at] = 1;
     }
     (bytes, second)
+}
+
+/// As many of the bytes as the record takes.
+fn own(bytes: &[u8; 64]) -> &[u8] {
+    &bytes[..bytes[0].into()]
 }
 
 /// 000's parse of 64 bytes.
@@ -96,6 +114,10 @@ fn port_named(name: &[u8], out: &mut [u8; 64]) -> u64 {
     unsafe { res_table_config_named(name.as_ptr(), name.len(), out.as_mut_ptr(), 64) }
 }
 
+fn port_marks(bytes: &[u8], age: u32, out: &mut [u8; 14]) -> u64 {
+    unsafe { res_table_config_marks(bytes.as_ptr(), bytes.len(), age, out.as_mut_ptr(), 14) }
+}
+
 /// Makes a call n times, and has the compiler believe that somebody looks at what it gives.
 fn times<A>(n: usize, mut call: impl FnMut() -> A) {
     for _ in 0..n {
@@ -113,19 +135,21 @@ fn rust_times(call: Call, parts: Parts, n: usize) {
         Call::Text => times(n, || parse(black_box(&a)).as_string()),
         Call::Order(_) => times(n, || parse(black_box(&a)).cmp(&parse(black_box(&b)))),
         Call::Name => times(n, || named::read(black_box(name.as_bytes()))),
+        Call::Marks => times(n, || marks::letters(black_box(own(&a)), black_box(AGE))),
     }
 }
 
 /// Makes the port's call n times.
 fn port_times(call: Call, parts: Parts, n: usize) {
     let (a, b) = bytes_of(call, parts);
-    let (mut out, mut record) = ([0u8; 344], [0u8; 64]);
+    let (mut out, mut record, mut letters) = ([0u8; 344], [0u8; 64], [0u8; 14]);
     let name = parse(&a).as_string();
     match call {
         Call::Parse => times(n, || port_blank(black_box(&a))),
         Call::Text => times(n, || port_text(black_box(&a), black_box(&mut out))),
         Call::Order(_) => times(n, || port_order(black_box(&a), black_box(&b))),
         Call::Name => times(n, || port_named(black_box(name.as_bytes()), black_box(&mut record))),
+        Call::Marks => times(n, || port_marks(black_box(own(&a)), black_box(AGE), black_box(&mut letters))),
     }
 }
 
@@ -139,7 +163,31 @@ fn same_named(name: &[u8]) -> bool {
     }
 }
 
-/// Whether port and Rust answer a case alike: whether it is blank, its text, the order both ways, and the text read as a name.
+/// A refusal of the marks as the port packs it.
+fn packed(why: marks::Refusal) -> u64 {
+    match why {
+        marks::Refusal::TooFewBytes => 1 << 32,
+        marks::Refusal::FieldCut(row) => 2 << 32 | row as u64,
+        marks::Refusal::NotAnAge => 3 << 32,
+        marks::Refusal::UndecodedCut => 8 << 32,
+    }
+}
+
+/// Whether port and Rust give the same marks of a record at every number up to 70, the ages among them, and of every front of its bytes: the letters, or why
+/// there are none.
+fn same_marks(bytes: &[u8; 64]) -> bool {
+    let alike = |front: &[u8], age| {
+        let mut out = [0; 14];
+        let answer = port_marks(front, age, &mut out);
+        match marks::letters(front, age) {
+            Ok(letters) => answer == 14 && out == letters,
+            Err(why) => answer == packed(why) && out == [0; 14],
+        }
+    };
+    (0..=64).all(|length| (0..=70).all(|age| alike(&bytes[..length], age)))
+}
+
+/// Whether port and Rust answer a case alike: whether it is blank, its text, the order both ways, the text read as a name, and its marks.
 fn same(call: Call, parts: Parts) -> bool {
     let (a, b) = bytes_of(call, parts);
     let blank = parse(&bytes_of(Call::Parse, BLANK).0);
@@ -151,6 +199,7 @@ fn same(call: Call, parts: Parts) -> bool {
         && port_order(&a, &b) as i32 == order(&a, &b)
         && port_order(&b, &a) as i32 == order(&b, &a)
         && same_named(parse(&a).as_string().as_bytes())
+        && same_marks(&a)
 }
 
 /// Does what the words say; 2 where they say nothing known, 1 where port and Rust differ.
