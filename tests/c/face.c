@@ -219,8 +219,8 @@ static const char *const NAMES[] = {
     "mcc1", "mnc65535", "en", "fil", "en-rUS", "es-r419", "neuter", "ldrtl", "sw1dp", "w65535dp", "h720dp", "xlarge", "notlong", "round",
     "widecg", "highdr", "land", "car", "vrheadset", "night", "hdpi", "nodpi", "161dpi", "65533dpi", "stylus", "keyssoft", "12key",
     "navhidden", "wheel", "0x1", "65535x65535", "v33", "v0.1", "v65535.65535",
-    "mcc310-mnc4-en-rUS-masculine-ldltr-sw320dp-w320dp-h480dp-normal-long-notround-nowidecg-lowdr-port-watch-notnight-xxhdpi-notouch-"
-    "keysexposed-nokeys-navexposed-nonav-480x320-v33.1"};
+    ("mcc310-mnc4-en-rUS-masculine-ldltr-sw320dp-w320dp-h480dp-normal-long-notround-nowidecg-lowdr-port-watch-notnight-xxhdpi-notouch-"
+     "keysexposed-nokeys-navexposed-nonav-480x320-v33.1")};
 
 /* Names that are refused, and the offset of the first part that ends none. */
 static const struct {
