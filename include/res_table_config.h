@@ -1,12 +1,12 @@
 /*
- * Resource configuration records of Android packages, the directory names that stand for them, and the type chunks that hold them: eleven
- * calls on numbers and bytes, six on records, one on names and four on chunks. Link libres_table_config.a, which
- * `rt staticlib res_table_config` writes to target/staticlib/ (x86-64 Linux).
+ * Resource configuration records of Android packages, the directory names that stand for them, and the type chunks that hold them: thirteen
+ * calls on numbers and bytes, seven on records, one on words of marks, one on names and four on chunks. Link libres_table_config.a,
+ * which `rt staticlib res_table_config` writes to target/staticlib/ (x86-64 Linux).
  *
  * Answers. Each call answers one number: a refusal's number in the upper 32 bits, 0 for a success. The lower 32 bits hold a
  * success's amount, or what the refusal carries: 2 carries the row of a field, 11 an offset, the others carry 0. Refusals are tested in
  * the order 3, 1, 2 and 8, 4, 5, as far as each can come; 2 and 8 stand at one place, since at most one of them holds. On a chunk it is
- * 3, 1, 9, 10, then 1, 2 and 8 of the record in its header, 4, 5; on a name 11, 5.
+ * 3, 1, 9, 10, then 1, 2 and 8 of the record in its header, 4, 5; on a name 11, 5; on a word of marks 12, 5.
  *
  * Buffers. A pointer and the length behind it name that many bytes, from one object, and the pointer isn't null, also where the
  * length is 0. A success writes from the front of out and leaves the bytes behind what it wrote as they were. A refusal writes
@@ -25,7 +25,8 @@
 extern "C" {
 #endif
 
-/* Why a call is refused. The calls of this header give 1 to 5, and 8; those on chunks also 9 and 10, the one on names 11. */
+/* Why a call is refused. The calls of this header give 1 to 5, and 8; those on chunks also 9 and 10, the one on names 11, the one on
+   words of marks 12. */
 enum res_table_config_refusal {
     RES_TABLE_CONFIG_TOO_FEW_BYTES = 1,  /* fewer than the 16 bytes that a record has at the least, or than the 20 of a chunk's head */
     RES_TABLE_CONFIG_FIELD_CUT = 2,      /* 16 bytes or more, fewer than the record's size, and a field that the size holds ends past
@@ -40,8 +41,9 @@ enum res_table_config_refusal {
     RES_TABLE_CONFIG_WRONG_TYPE = 9,     /* the chunk's type isn't 0x0201 */
     RES_TABLE_CONFIG_WRONG_SIZES = 10,   /* the chunk's header size is below 20 or above its chunk size, or that is above the bytes
                                             given */
-    RES_TABLE_CONFIG_NOT_A_NAME = 11     /* the directory name isn't in the grammar: carries the offset of the first part that ends no
+    RES_TABLE_CONFIG_NOT_A_NAME = 11,    /* the directory name isn't in the grammar: carries the offset of the first part that ends no
                                             name */
+    RES_TABLE_CONFIG_TOP_BITS = 12       /* a bit from 28 up is set in the word of marks */
 };
 
 /* The age that a listing takes where none is named; the calls always take one. How many bytes the longest text has, how many marks there
@@ -117,6 +119,14 @@ uint64_t res_table_config_replaced(const uint8_t *bytes, size_t len, uint32_t ag
 /* Writes a letter for each field after size, in field order: U past the age, A absent, B blank, F filled. The amount is 14.
    Refusals 3, 1, 2, 8, 5. */
 uint64_t res_table_config_marks(const uint8_t *bytes, size_t len, uint32_t age, uint8_t *out, size_t cap);
+
+/* The same marks in one word, which is the amount: two bits to each field after size, bits 0 and 1 to imsi and so on in field order.
+   A is 0, B 1, F 2, U 3. Fourteen fields take bits 0 to 27, and those from 28 up are zero. Refusals 3, 1, 2, 8. */
+uint64_t res_table_config_marks_word(const uint8_t *bytes, size_t len, uint32_t age);
+
+/* Writes the fourteen letters of such a word; the amount is 14. Every word below 2^28 has them, also one that is of no record.
+   Refusals 12, 5. */
+uint64_t res_table_config_marks_letters(uint32_t word, uint8_t *out, size_t cap);
 
 /* How the record at the front of a stands to the one at the front of b. Refusals 1, 2, 8 of a, then 1, 2, 8 of b. */
 uint64_t res_table_config_order(const uint8_t *a, size_t a_len, const uint8_t *b, size_t b_len);

@@ -286,8 +286,10 @@ static void cut(void) {
             CHECK(carries(res_table_config_aged_text(bytes, length, AGES[j], out, 0), number, row));
             CHECK(carries(res_table_config_replaced(bytes, length, AGES[j]), number, row));
             CHECK(carries(res_table_config_marks(bytes, length, AGES[j], out, 0), number, row));
+            CHECK(carries(res_table_config_marks_word(bytes, length, AGES[j]), number, row));
         }
         CHECK(refused(res_table_config_aged_text(bytes, length, 63, out, 0), RES_TABLE_CONFIG_NOT_AN_AGE));
+        CHECK(refused(res_table_config_marks_word(bytes, length, 63), RES_TABLE_CONFIG_NOT_AN_AGE));
     }
     ended("cut");
 }
@@ -303,7 +305,7 @@ static void header(void) {
     CHECK(res_table_config_number(answer) == RES_TABLE_CONFIG_TOO_MUCH_INPUT);
     CHECK(res_table_config_carried(answer) == 0xfffffff9u && res_table_config_amount(answer) == 0);
     CHECK(res_table_config_amount(0xfffffff9u) == 0xfffffff9u && res_table_config_carried(0xfffffff9u) == 0);
-    CHECK(RES_TABLE_CONFIG_UNREAD_FIELD == 6 && RES_TABLE_CONFIG_NOT_A_NAME == 11);
+    CHECK(RES_TABLE_CONFIG_UNREAD_FIELD == 6 && RES_TABLE_CONFIG_NOT_A_NAME == 11 && RES_TABLE_CONFIG_TOP_BITS == 12);
     CHECK(RES_TABLE_CONFIG_DEFAULT_AGE == 52);
     CHECK(RES_TABLE_CONFIG_MARKS == 14 && RES_TABLE_CONFIG_NAMED_SIZE == 64 && RES_TABLE_TYPE_HEAD == 10);
     CHECK(same(res_table_config_field(0), "size") && same(res_table_config_field(8), "screen_size_dp"));
@@ -319,6 +321,7 @@ int main(void) {
     aged_text();
     replaced();
     marks();
+    words();
     order();
     named();
     cut();

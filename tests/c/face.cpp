@@ -21,6 +21,7 @@ extern "C" int face_from_cpp(int *failed) {
     uint8_t text[RES_TABLE_CONFIG_TEXT_MOST] = {};
     uint8_t aged[2] = {};
     uint8_t marks[RES_TABLE_CONFIG_MARKS] = {};
+    uint8_t letters[RES_TABLE_CONFIG_MARKS] = {};
     uint8_t named[RES_TABLE_CONFIG_NAMED_SIZE] = {};
     uint8_t head[RES_TABLE_TYPE_HEAD] = {};
     const bool holds[] = {
@@ -29,6 +30,11 @@ extern "C" int face_from_cpp(int *failed) {
         res_table_config_aged_text(SWEDISH, sizeof SWEDISH, 16, aged, sizeof aged) == 2 && aged[1] == 'v',
         res_table_config_replaced(DAMAGED, sizeof DAMAGED, 16) == 1,
         res_table_config_marks(SWEDISH, sizeof SWEDISH, 16, marks, sizeof marks) == 14 && marks[1] == 'F',
+        // B F B and eleven U: 1, 2 and 1 in the lowest six bits, and 22 ones above them
+        res_table_config_marks_word(SWEDISH, sizeof SWEDISH, 16) == 0x0fffffd9,
+        res_table_config_marks_letters(0x0fffffd9, letters, sizeof letters) == 14 && letters[1] == 'F' && letters[13] == 'U',
+        res_table_config_number(res_table_config_marks_letters(0x1fffffd9, letters, 0)) == RES_TABLE_CONFIG_TOP_BITS,
+        res_table_config_number(res_table_config_marks_letters(0x0fffffd9, letters, 13)) == RES_TABLE_CONFIG_SHORT_BUFFER,
         res_table_config_order(SWEDISH, sizeof SWEDISH, SWEDISH, sizeof SWEDISH) == RES_TABLE_CONFIG_EQUAL,
         res_table_config_number(res_table_config_take(SWEDISH, 15)) == RES_TABLE_CONFIG_TOO_FEW_BYTES,
         res_table_config_number(res_table_config_take(CUT, sizeof CUT)) == RES_TABLE_CONFIG_FIELD_CUT,
