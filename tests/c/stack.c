@@ -13,11 +13,12 @@ static uint8_t stack[DEPTH] __attribute__((aligned(16)));
 #define ROOM 400
 static uint8_t out[ROOM];
 
-/* A record, how many of its bytes are given, the length and the replacements of its text, and why every call refuses it, where one does. */
+/* A record, how many of its bytes are given, the length and the replacements of its text, the words of its marks at ages 64 and 16, and why every
+   call refuses it, where one does. */
 struct given {
     uint8_t bytes[64];
     size_t length;
-    uint32_t text, replaced;
+    uint32_t text, replaced, word, early_word;
     uint64_t refusal;
 };
 
@@ -28,19 +29,19 @@ static const struct given GIVEN[] = {
     /* en-rUS, and six numbers of five digits */
     {{64, 0, 0, 0, 0, 0, 0, 0, 'e', 'n', 'U', 'S', 0, 0, 48, 117, 0, 0, 0, 0, 48, 117, 48, 117, 48, 117, 48, 117, 0,
       0, 48, 117, 48, 117, 48, 117},
-     64, 68, 0, 0},
+     64, 68, 0, 0x0555aa69, 0x0fffffe9, 0},
     /* mcc and mnc of five digits, b+sr+Latn+RS, and a variant and numbering system in which bytes are no UTF-8 */
     {{64, 0, 0, 0, 57, 48, 57, 48, 's', 'r', 'R', 'S', 0, 0, 0, 0, 0, 0, 0, 0, 0, 0, 0, 0, 0, 0, 0, 0, 0, 0, 0, 0,
       0, 0, 0, 0, 'L', 'a', 't', 'n', 'v', 0xe2, 0x82, 'x', 0xff, 'y', 0xc3, 0, 0, 0, 0, 0, 0, 'l', 'a', 0xf0, 0x9f,
       0x98, 'n'},
-     64, 55, 4, 0},
+     64, 55, 4, 0x065a555a, 0x0fffffda, 0},
     /* the longest text */
     {{64, 0, 0, 0, 255, 255, 255, 255, 255, 255, 1, 128, 255, 255, 253, 255, 255, 255, 13, 3, 255, 255, 255, 255,
       255, 255, 255, 255, 82, 63, 255, 255, 255, 255, 255, 255, 255, 255, 255, 255, 255, 255, 255, 255, 255, 255,
       255, 255, 1, 9, 0, 0, 0, 255, 255, 255, 255, 255, 255, 255, 255},
-     64, 344, 24, 0},
+     64, 344, 24, 0x066aaaaa, 0x0fffffea, 0},
     /* 64 bytes by its size, and 40 are there: field 10 is cut */
-    {{64}, 40, 0, 0, REFUSED(RES_TABLE_CONFIG_FIELD_CUT) + 10},
+    {{64}, 40, 0, 0, 0, 0, REFUSED(RES_TABLE_CONFIG_FIELD_CUT) + 10},
 };
 #define GIVENS (sizeof GIVEN / sizeof *GIVEN)
 
@@ -62,8 +63,12 @@ static const struct {
     {"b+en", REFUSED(RES_TABLE_CONFIG_NOT_A_NAME)},
 };
 
-/* The calls but for order, which takes two records, and named, which takes a name. The amount of each, and whether it takes a chunk, an age and a buffer. */
-enum amount { TAKEN, TEXT, REPLACED, MARKS, HEAD };
+/* Words of marks: the lowest, one with marks of all four sorts, the highest, and three with a bit from 28 up, which are refused. */
+static const uint32_t MARKS_WORDS[] = {0, 0x04e4e4e4, 0x0fffffff, 0x10000000, 0x84e4e4e4, 0xffffffff};
+
+/* The calls but for order, which takes two records, named, which takes a name, and marks_letters, which takes a word. The amount of each, and whether
+   it takes a chunk, an age and a buffer. */
+enum amount { TAKEN, TEXT, REPLACED, MARKS, WORD, HEAD };
 static const struct call {
     const char *name;
     void (*entry)(void);
@@ -75,6 +80,7 @@ static const struct call {
     {"res_table_config_aged_text", (void (*)(void))res_table_config_aged_text, TEXT, 0, 1, 1},
     {"res_table_config_replaced", (void (*)(void))res_table_config_replaced, REPLACED, 0, 1, 0},
     {"res_table_config_marks", (void (*)(void))res_table_config_marks, MARKS, 0, 1, 1},
+    {"res_table_config_marks_word", (void (*)(void))res_table_config_marks_word, WORD, 0, 1, 0},
     {"res_table_type_take", (void (*)(void))res_table_type_take, TAKEN, 1, 0, 0},
     {"res_table_type_head", (void (*)(void))res_table_type_head, HEAD, 1, 0, 1},
     {"res_table_type_aged_text", (void (*)(void))res_table_type_aged_text, TEXT, 1, 1, 1},
@@ -117,9 +123,10 @@ static void measure(const char *name, void (*entry)(void), const uintptr_t words
     }
 }
 
-/* The amount of a call's success on a record. */
-static uint32_t amount(const struct call *call, const struct given *given) {
-    const uint32_t amounts[] = {call->of_chunk ? 84 : 64, given->text, given->replaced, RES_TABLE_CONFIG_MARKS, RES_TABLE_TYPE_HEAD};
+/* The amount of a call's success on a record at an age. */
+static uint32_t amount(const struct call *call, const struct given *given, uint32_t age) {
+    const uint32_t amounts[] = {call->of_chunk ? 84 : 64, given->text, given->replaced, RES_TABLE_CONFIG_MARKS,
+                                age == 16 ? given->early_word : given->word, RES_TABLE_TYPE_HEAD};
     return amounts[call->amount];
 }
 
@@ -127,9 +134,10 @@ static uint32_t amount(const struct call *call, const struct given *given) {
 static uint64_t expected(const struct call *call, const struct given *given, uint32_t age, size_t room) {
     if (call->has_age && age == 33) return REFUSED(RES_TABLE_CONFIG_NOT_AN_AGE);
     if (given->refusal) return given->refusal;
-    if (call->has_age && age == 16 && call->amount != MARKS) return REFUSED(RES_TABLE_CONFIG_HELD_BACK);
-    if (call->has_out && room < amount(call, given)) return REFUSED(RES_TABLE_CONFIG_SHORT_BUFFER);
-    return amount(call, given);
+    int marks = call->amount == MARKS || call->amount == WORD;
+    if (call->has_age && age == 16 && !marks) return REFUSED(RES_TABLE_CONFIG_HELD_BACK);
+    if (call->has_out && room < amount(call, given, age)) return REFUSED(RES_TABLE_CONFIG_SHORT_BUFFER);
+    return amount(call, given, age);
 }
 
 /* Measures a call on a record at each age with so many bytes lent. */
@@ -152,7 +160,7 @@ static void at_ages(const struct call *call, const struct given *given, size_t r
 static void row(const struct call *call) {
     size_t room = 0, one_short = 0, empty = 0;
     for (size_t i = 0; i < GIVENS; i++) {
-        size_t length = amount(call, &GIVEN[i]);
+        size_t length = amount(call, &GIVEN[i], 64);
         at_ages(call, &GIVEN[i], ROOM, &room);
         at_ages(call, &GIVEN[i], length, &room);
         if (length > 0) at_ages(call, &GIVEN[i], length - 1, &one_short);
@@ -162,6 +170,26 @@ static void row(const struct call *call) {
         printf("| `%s` | %zu | %zu | %zu |\n", call->name, room, one_short, empty);
     else
         printf("| `%s` | %zu | | |\n", call->name, room);
+}
+
+/* Measures the call on every word of marks that is lent so many bytes. */
+static void letters(size_t room, size_t *most) {
+    for (size_t i = 0; i < sizeof MARKS_WORDS / sizeof *MARKS_WORDS; i++) {
+        const uintptr_t words[5] = {MARKS_WORDS[i], (uintptr_t)out, room};
+        uint64_t lent = room < RES_TABLE_CONFIG_MARKS ? REFUSED(RES_TABLE_CONFIG_SHORT_BUFFER) : RES_TABLE_CONFIG_MARKS;
+        uint64_t expected = MARKS_WORDS[i] >> 28 ? REFUSED(RES_TABLE_CONFIG_TOP_BITS) : lent;
+        measure("res_table_config_marks_letters", (void (*)(void))res_table_config_marks_letters, words, expected, most);
+    }
+}
+
+/* Measures it with room for the letters and more, with a byte less, and with none. */
+static void marks_letters(void) {
+    size_t room = 0, one_short = 0, empty = 0;
+    letters(ROOM, &room);
+    letters(RES_TABLE_CONFIG_MARKS, &room);
+    letters(RES_TABLE_CONFIG_MARKS - 1, &one_short);
+    letters(0, &empty);
+    printf("| `res_table_config_marks_letters` | %zu | %zu | %zu |\n", room, one_short, empty);
 }
 
 /* Measures the order of every two records. */
@@ -203,6 +231,7 @@ static void named(void) {
 int main(void) {
     for (size_t i = 0; i < CALL_COUNT; i++)
         if (!CALLS[i].of_chunk) row(&CALLS[i]);
+    marks_letters();
     order();
     named();
     for (size_t i = 0; i < CALL_COUNT; i++)
