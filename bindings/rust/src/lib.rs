@@ -1,8 +1,9 @@
 //! Android's resource configuration records, the directory names that stand for them, and the type chunks of a resource table that hold
 //! them, over the proved crate `res_table_config` (`include/res_table_config.h` is its C face).
 //!
-//! Eleven functions on slices, six on records, [`named`] on names and four, which begin with `type_`, on type chunks. Each takes every
-//! input: what it can't do it refuses with a [`Refusal`], and a refusal writes nothing. Ages are plain numbers; twelve of them are [`AGES`].
+//! Thirteen functions: seven on records, [`marks_letters`] on words of marks, [`named`] on names and four, which begin with `type_`, on
+//! type chunks. Each takes every input: what it can't do it refuses with a [`Refusal`], and a refusal writes nothing. Ages are plain
+//! numbers; twelve of them are [`AGES`].
 //!
 //! ```
 //! let record = *b"\x10\0\0\0\x36\x01\0\0enUS\x01\0\xf0\0";
@@ -12,8 +13,10 @@
 //! # Ok::<(), res_table_config::Refusal>(())
 //! ```
 
+mod refusal;
+
+pub use refusal::Refusal;
 use std::cmp::Ordering;
-use std::fmt;
 
 /// The twelve ages: the numbers of bytes up to which a reader may know a record.
 pub const AGES: [u32; 12] = [16, 20, 24, 28, 32, 36, 40, 48, 52, 53, 61, 64];
@@ -52,109 +55,6 @@ pub const FIELDS: [&str; 15] = [
     "end_padding",
 ];
 
-/// Why a call is refused. The functions of this crate give all but the last two.
-#[derive(Clone, Copy, Debug, PartialEq, Eq, Hash)]
-pub enum Refusal {
-    /// There are fewer than the 16 bytes that a record has at the least, or than the 20 of a chunk's head.
-    TooFewBytes,
-    /// There are 16 bytes or more, and fewer than the record's size: a field that the size holds ends past them. The first such field
-    /// is the one of this row of [`FIELDS`], from 4 to 14.
-    FieldCut(usize),
-    /// There are 16 bytes or more, and fewer than the record's size: every field that the size holds is there, and only bytes that
-    /// no field decodes are lacking.
-    UndecodedCut,
-    /// The age is not among the twelve [`AGES`].
-    NotAnAge,
-    /// A byte of the record at offset age or later isn't zero.
-    HeldBack,
-    /// The lent buffer is shorter than what is to be written.
-    ShortBuffer,
-    /// The chunk's type isn't 0x0201.
-    WrongType,
-    /// The chunk's header size is below 20 or above its chunk size, or that is above the bytes given.
-    WrongSizes,
-    /// The directory name isn't in the grammar: the part at this offset is the first such that the name up to the part's end is none.
-    /// No such offset is above 325.
-    NotAName(usize),
-    /// A field that isn't read at the record's size isn't zero.
-    UnreadField,
-    /// There are more than 65,536 bytes of input.
-    TooMuchInput,
-}
-
-impl Refusal {
-    /// The refusal of a number, with what it carries.
-    fn of(number: u32, carried: usize) -> Refusal {
-        match number {
-            1 => Refusal::TooFewBytes,
-            2 => Refusal::FieldCut(carried),
-            3 => Refusal::NotAnAge,
-            4 => Refusal::HeldBack,
-            5 => Refusal::ShortBuffer,
-            6 => Refusal::UnreadField,
-            7 => Refusal::TooMuchInput,
-            8 => Refusal::UndecodedCut,
-            9 => Refusal::WrongType,
-            10 => Refusal::WrongSizes,
-            11 => Refusal::NotAName(carried),
-            _ => unreachable!("the C face refuses with no other number than 1 to 11, not with {number}"),
-        }
-    }
-
-    /// The refusal's number, from 1 to 11.
-    ///
-    /// ```
-    /// use res_table_config::Refusal;
-    /// assert_eq!(Refusal::HeldBack.number(), 4);
-    /// assert_eq!(Refusal::FieldCut(10).number(), 2);
-    /// assert_eq!(Refusal::UndecodedCut.number(), 8);
-    /// ```
-    pub fn number(self) -> u32 {
-        match self {
-            Refusal::TooFewBytes => 1,
-            Refusal::FieldCut(_) => 2,
-            Refusal::NotAnAge => 3,
-            Refusal::HeldBack => 4,
-            Refusal::ShortBuffer => 5,
-            Refusal::UnreadField => 6,
-            Refusal::TooMuchInput => 7,
-            Refusal::UndecodedCut => 8,
-            Refusal::WrongType => 9,
-            Refusal::WrongSizes => 10,
-            Refusal::NotAName(_) => 11,
-        }
-    }
-}
-
-/// The refusal in words; of a cut field its row and its name, of a name the offset that it carries.
-///
-/// ```
-/// use res_table_config::Refusal;
-/// assert_eq!(Refusal::FieldCut(10).to_string(), "cut inside field 10, locale_variant");
-/// ```
-impl fmt::Display for Refusal {
-    fn fmt(&self, f: &mut fmt::Formatter<'_>) -> fmt::Result {
-        f.write_str(match self {
-            Refusal::TooFewBytes => "fewer bytes than a record or a chunk's head has",
-            Refusal::FieldCut(row) => {
-                let name = FIELDS.get(*row).unwrap_or(&"which no record has");
-                return write!(f, "cut inside field {row}, {name}");
-            }
-            Refusal::UndecodedCut => "no field is cut: only undecoded bytes are lacking",
-            Refusal::NotAnAge => "not one of the twelve ages",
-            Refusal::HeldBack => "held back: a byte past the age isn't zero",
-            Refusal::ShortBuffer => "the buffer is too short",
-            Refusal::WrongType => "the chunk's type isn't 0x0201",
-            Refusal::WrongSizes => "the chunk's header size or chunk size can't be",
-            Refusal::NotAName(at) => return write!(f, "not a directory name: the part at {at} ends none"),
-            Refusal::UnreadField => "a field that isn't read isn't zero",
-            Refusal::TooMuchInput => "more than 65,536 bytes of input",
-        })
-    }
-}
-
-impl std::error::Error for Refusal {}
-
 mod face {
     unsafe extern "C" {
         pub fn res_table_config_take(bytes: *const u8, len: usize) -> u64;
@@ -162,6 +62,8 @@ mod face {
         pub fn res_table_config_aged_text(bytes: *const u8, len: usize, age: u32, out: *mut u8, cap: usize) -> u64;
         pub fn res_table_config_replaced(bytes: *const u8, len: usize, age: u32) -> u64;
         pub fn res_table_config_marks(bytes: *const u8, len: usize, age: u32, out: *mut u8, cap: usize) -> u64;
+        pub fn res_table_config_marks_word(bytes: *const u8, len: usize, age: u32) -> u64;
+        pub fn res_table_config_marks_letters(word: u32, out: *mut u8, cap: usize) -> u64;
         pub fn res_table_config_order(a: *const u8, a_len: usize, b: *const u8, b_len: usize) -> u64;
         pub fn res_table_config_named(name: *const u8, len: usize, out: *mut u8, cap: usize) -> u64;
         pub fn res_table_type_take(bytes: *const u8, len: usize) -> u64;
@@ -264,6 +166,45 @@ pub fn marks(bytes: &[u8], age: u32) -> Result<[u8; MARKS], Refusal> {
     let mut letters = [0; MARKS];
     // SAFETY: as for text; the array is the call's own.
     told(unsafe { face::res_table_config_marks(bytes.as_ptr(), bytes.len(), age, letters.as_mut_ptr(), MARKS) })?;
+    Ok(letters)
+}
+
+/// The marks that [`marks`] gives, in one word: two bits to each field after the size, bits 0 and 1 to `imsi` and so on in the order of
+/// [`FIELDS`]. `A` is 0, `B` 1, `F` 2 and `U` 3. The fourteen fields take bits 0 to 27, and those from 28 up are zero.
+///
+/// Refuses with [`Refusal::NotAnAge`], then as [`take`] does.
+///
+/// ```
+/// use res_table_config::{marks_word, Refusal};
+/// let record = *b"\x10\0\0\0\0\0\0\0sv\0\0\0\0\0\0";
+/// let word = marks_word(&record, 64)?;
+/// assert_eq!(word, 0b01_10_01); // imsi is blank, locale filled, screen_type blank, and all others are absent
+/// let locale = word >> 2 & 3;
+/// assert_eq!(locale, 2);
+/// assert_eq!(marks_word(&record, 17), Err(Refusal::NotAnAge));
+/// # Ok::<(), Refusal>(())
+/// ```
+pub fn marks_word(bytes: &[u8], age: u32) -> Result<u32, Refusal> {
+    // SAFETY: as for take.
+    let answer = unsafe { face::res_table_config_marks_word(bytes.as_ptr(), bytes.len(), age) };
+    told(answer).map(|word| word as u32)
+}
+
+/// The letters of the marks in a word that [`marks_word`] gives: those that [`marks`] gives of the same record at the same age. Every word
+/// below 2^28 has letters, also one that is of no record.
+///
+/// Refuses with [`Refusal::TopBits`].
+///
+/// ```
+/// use res_table_config::{marks_letters, Refusal};
+/// assert_eq!(marks_letters(0b01_10_01), Ok(*b"BFBAAAAAAAAAAA"));
+/// assert_eq!(marks_letters(0x0fff_ffff), Ok([b'U'; 14]));
+/// assert_eq!(marks_letters(0x1000_0000), Err(Refusal::TopBits));
+/// ```
+pub fn marks_letters(word: u32) -> Result<[u8; MARKS], Refusal> {
+    let mut letters = [0; MARKS];
+    // SAFETY: pointer and length are those of an array that is the call's own.
+    told(unsafe { face::res_table_config_marks_letters(word, letters.as_mut_ptr(), MARKS) })?;
     Ok(letters)
 }
 
