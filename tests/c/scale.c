@@ -35,7 +35,7 @@ uint64_t probe_chunk_read(const uint8_t *bytes, size_t len, size_t offset, uint3
 size_t probe_chunk_read_next(const uint8_t *bytes, size_t len, size_t offset, uint32_t age);
 
 enum {
-    TAKE, TEXT, AGED_TEXT, REPLACED, MARKS, ORDER, FIRST_LINE, LINE, NEXT, WALK, RECORDS, WRITE, ROW, RECORD_LINE,
+    TAKE, TEXT, AGED_TEXT, REPLACED, MARKS, MARKS_WORD, MARKS_LETTERS, ORDER, FIRST_LINE, LINE, NEXT, WALK, RECORDS, WRITE, ROW, RECORD_LINE,
     TYPE_TAKE, TYPE_HEAD, TYPE_TEXT, TYPE_MARKS, CHUNK_STOP, CHUNK_END, CHUNKS, CHUNK_STEP, CHUNK_NEXT, CHUNK_READ, CHUNK_READ_NEXT,
     NAMED,
     CALLS,
@@ -163,6 +163,8 @@ static uint64_t call(const struct question *q, const uint8_t *a, const uint8_t *
     case AGED_TEXT: return res_table_config_aged_text(a, length, q->number, to, lent);
     case REPLACED: return res_table_config_replaced(a, length, q->number);
     case MARKS: return res_table_config_marks(a, length, q->number, to, lent);
+    case MARKS_WORD: return res_table_config_marks_word(a, length, q->number);
+    case MARKS_LETTERS: return res_table_config_marks_letters(q->number, to, lent);
     case ORDER: return res_table_config_order(a, length, b, q->second_length);
     case FIRST_LINE: return probe_first_line(a, length, q->number, to, lent);
     case LINE: return probe_line(a, length, q->number, q->index, q->offset, to, lent);

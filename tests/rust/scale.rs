@@ -4,6 +4,7 @@ mod chunks;
 mod cuts;
 pub mod expected;
 pub mod inputs;
+mod marks;
 mod mutations;
 mod names;
 mod tally;
@@ -23,6 +24,8 @@ pub enum Call {
     AgedText,
     Replaced,
     Marks,
+    MarksWord,
+    MarksLetters,
     Order,
     FirstLine,
     Line,
@@ -47,12 +50,14 @@ pub enum Call {
 }
 
 /// The calls with their names.
-pub const CALLS: [(Call, &str); 26] = [
+pub const CALLS: [(Call, &str); 28] = [
     (Call::Take, "take"),
     (Call::Text, "text"),
     (Call::AgedText, "aged text"),
     (Call::Replaced, "replaced"),
     (Call::Marks, "marks"),
+    (Call::MarksWord, "marks word"),
+    (Call::MarksLetters, "letters"),
     (Call::Order, "order"),
     (Call::FirstLine, "1st line"),
     (Call::Line, "line"),
@@ -79,7 +84,7 @@ pub const CALLS: [(Call, &str); 26] = [
 /// A question: a call with what it is made with, and what it is to write.
 pub struct Question {
     pub call: Call,
-    /// The age, or the writer's size.
+    /// The age, the writer's size, or a word of marks.
     pub number: u32,
     /// Where a listing is: the record's index and its offset. A run begins at the offset.
     pub index: u64,
@@ -103,6 +108,11 @@ pub trait Source {
     /// The numbers to which its questions must come.
     fn numbers(&self) -> &'static [usize] {
         &[0, 1, 2, 3, 4, 5, 6, 7, 8]
+    }
+
+    /// Whether it asks for texts, of which some must have replacements.
+    fn texts(&self) -> bool {
+        true
     }
 
     /// The next question; none behind the last.
@@ -201,11 +211,13 @@ fn source_of(name: &str, seed: &str) -> Result<Box<dyn Source>, String> {
         "cut" => Ok(Box::new(cuts::Cuts::new(seed))),
         "chunk" => Ok(Box::new(chunks::Chunks::new(seed))),
         "name" => Ok(Box::new(names::Names::new(seed))),
+        "mark" => Ok(Box::new(marks::Marks::new(seed))),
         _ => Err(format!("no questions are called {name}")),
     }
 }
 
-/// Writes questions: so many that are made, for so many seconds those that are mutated, or all on records that are cut, on chunks or on names.
+/// Writes questions: so many that are made, for so many seconds those that are mutated, or all on records that are cut, on chunks, on names or on
+/// marks.
 pub fn ask(name: &str, seed: &str, limit: Option<&str>) -> Result<(), String> {
     let mut source = source_of(name, seed)?;
     let limit = limit.map_or(Ok(u64::MAX), str::parse).map_err(|e| format!("the limit: {e}"))?;
@@ -239,7 +251,7 @@ pub fn check(name: &str, seed: &str) -> Result<(), String> {
     loop {
         let got = Got::read(&mut answers)?;
         if got.status == END {
-            return tally.ended(got.answer, source.numbers());
+            return tally.ended(got.answer, source.numbers(), source.texts());
         }
         let question = source.next().ok_or("there are more answers than questions")?;
         let outcome = expected::outcome(&question);

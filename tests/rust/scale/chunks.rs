@@ -283,7 +283,7 @@ fn asked(sort: usize, (bytes, offset): Input, ages: &[u32]) -> Vec<Question> {
 }
 
 /// The records of a run up to where it stops, each with its offset.
-fn records(run: &[u8]) -> Vec<(usize, &[u8])> {
+pub fn records(run: &[u8]) -> Vec<(usize, &[u8])> {
     let (mut offset, mut records) = (0, vec![]);
     while let Ok((_, amount)) = whole(&run[offset..]) {
         records.push((offset, &run[offset..offset + amount]));

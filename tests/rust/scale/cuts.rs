@@ -5,7 +5,8 @@ use crate::payloads::{declare, declared, sizes_at_lengths, ENDS};
 use crate::questions::Random;
 
 /// The calls that take an age.
-const AGED: [Call; 6] = [Call::AgedText, Call::Replaced, Call::Marks, Call::Line, Call::Next, Call::RecordLine];
+const AGED: [Call; 7] =
+    [Call::AgedText, Call::Replaced, Call::Marks, Call::MarksWord, Call::Line, Call::Next, Call::RecordLine];
 
 /// The calls on a run.
 const RUNS: [Call; 3] = [Call::Walk, Call::Row, Call::Records];

@@ -4,6 +4,7 @@ use crate::chunk::{chunk, chunk_at};
 use crate::cut::{self, Refused, ENDS};
 use crate::grammar::named;
 use crate::listed::{held_back, marks, put_age_line, put_record_line, put_stop_line, taken, MOST};
+use crate::marks_word::{letters, word};
 use crate::records::{fields, written};
 use crate::replaced::{held_in_record, in_record};
 use crate::subject::ResTableConfig;
@@ -74,6 +75,7 @@ pub fn wanted(call: Call, number: u32, index: u64, offset: u64, bytes: &[u8]) ->
             let (age, (record, amount)) = (age(number)?, whole(bytes)?);
             Ok(marks(&bytes[..amount], record.size as usize, age).to_vec())
         }
+        Call::MarksLetters => letters(number).map(Vec::from),
         Call::FirstLine => listed(bytes).and(age(number)).map(first_line),
         Call::Line | Call::Next => listed(bytes).and(age(number)).map(|age| line(bytes, age, index, offset).0),
         Call::RecordLine => age(number).and_then(|age| record_line(bytes, age, index, offset)),
@@ -98,11 +100,20 @@ fn of_name(name: &[u8]) -> Wanted {
 /// Whether a call writes to lent bytes.
 pub fn writes(call: Call) -> bool {
     match call {
-        Call::Take | Call::Replaced | Call::Order | Call::Walk | Call::Row | Call::Records => false,
+        Call::Take | Call::Replaced | Call::MarksWord | Call::Order | Call::Walk | Call::Row | Call::Records => false,
         Call::TypeTake | Call::ChunkStop | Call::ChunkEnd | Call::Chunks => false,
         Call::ChunkNext | Call::ChunkReadNext => false,
         _ => true,
     }
+}
+
+/// The word of the marks of the record at the front of some bytes for a reader of an age. Its letters must be those of a listing.
+pub fn word_of(bytes: &[u8], number: u32) -> Result<u32, Refused> {
+    let (age, (record, amount)) = (age(number)?, whole(bytes)?);
+    let whole = &bytes[..amount];
+    let word = word(whole, age);
+    assert_eq!(letters(word), Ok(marks(whole, record.size as usize, age)), "{word:#x} at {age}: {whole:x?}");
+    Ok(word)
 }
 
 /// What a call on a record is to write of the one in a chunk: an age that is none comes first, then what is wrong with the chunk.
@@ -206,6 +217,7 @@ pub fn outcome(question: &Question) -> Outcome {
         Call::Replaced => {
             told(shown(first, question.number).map(|record| held_in_record(&record, &record.as_string()) as u64))
         }
+        Call::MarksWord => told(word_of(first, question.number).map(u64::from)),
         Call::Order => {
             let order = whole(first).and_then(|(a, _)| Ok(a.cmp(&whole(&question.second)?.0)));
             told(order.map(|order| (order as i64 + 1) as u64))

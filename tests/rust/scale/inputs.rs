@@ -26,7 +26,7 @@ pub enum Room {
 pub const ROOMS: [&str; 6] = ["no buffer", "nothing", "one short", "exact", "longer", "large"];
 
 /// The calls that inputs of any sort go to, those whose answer says most more often.
-const GO_TO: [Call; 21] = [
+const GO_TO: [Call; 22] = [
     Call::Take,
     Call::Text,
     Call::Text,
@@ -38,6 +38,7 @@ const GO_TO: [Call; 21] = [
     Call::Replaced,
     Call::Replaced,
     Call::Marks,
+    Call::MarksWord,
     Call::Order,
     Call::FirstLine,
     Call::Line,
@@ -59,7 +60,7 @@ pub const NO_AGES: [u32; 18] =
 
 /// What inputs are taken for.
 #[derive(Clone, Copy)]
-enum For {
+pub enum For {
     /// Every call; an order takes two.
     Every,
     /// The order of the two records that each holds.
@@ -69,15 +70,15 @@ enum For {
 }
 
 /// A sort of input: its name, how many of a thousand questions it has, what it is for, and what makes it.
-struct Sort {
-    name: &'static str,
+pub struct Sort {
+    pub name: &'static str,
     weight: usize,
-    taken_for: For,
-    make: Maker,
+    pub taken_for: For,
+    pub make: Maker,
 }
 
 /// The sorts.
-static SORTS: [Sort; 13] = [
+pub static SORTS: [Sort; 13] = [
     Sort { name: "whole", weight: 130, taken_for: For::Every, make: whole },
     Sort { name: "damaged", weight: 130, taken_for: For::Every, make: damaged },
     Sort { name: "every size", weight: 80, taken_for: For::Every, make: every_size },
@@ -204,6 +205,7 @@ impl Source for Made {
 pub fn question(random: &mut Random, sort: usize, call: Call, first: Vec<u8>, second: Vec<u8>) -> Question {
     let number = match call {
         Call::Write => size(random, &first),
+        Call::MarksLetters => any_word(random),
         _ => any_age(random),
     };
     let (index, offset) = match call {
@@ -235,6 +237,15 @@ pub fn any_age(random: &mut Random) -> u32 {
         1 => random.next() as u32,
         2..=4 => 64,
         _ => one(random, &ENDS[3..]) as u32,
+    }
+}
+
+/// A word of marks, and one in four times one that may have a bit from 28 up.
+fn any_word(random: &mut Random) -> u32 {
+    match random.below(8) {
+        0 => 1 << (28 + random.below(4)),
+        1 => random.next() as u32,
+        _ => random.next() as u32 >> 4,
     }
 }
 

@@ -1,5 +1,5 @@
 //! Questions on mutations of records as files have them: each that is mutated goes to every call, to those on chunks in a chunk around it, and to the one on
-//! names as its text.
+//! names as its text. The one on words of marks takes no bytes, and has a word of its own.
 use super::chunks::around;
 use super::inputs::question;
 use super::{Call, Question, Source, CALLS};
@@ -173,6 +173,7 @@ impl Source for Mutated {
         };
         let first = match call {
             Call::Named => self.text(),
+            Call::MarksLetters => vec![],
             call if (call as usize) < Call::TypeTake as usize => self.bytes.clone(),
             _ => self.in_chunk(),
         };

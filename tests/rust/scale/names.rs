@@ -59,6 +59,10 @@ impl Source for Names {
         &[0, 5, 11]
     }
 
+    fn texts(&self) -> bool {
+        false
+    }
+
     fn next(&mut self) -> Option<Question> {
         if self.questions.is_empty() {
             let name = self.name()?;

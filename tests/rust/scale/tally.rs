@@ -4,7 +4,7 @@ use super::{inputs::ROOMS, Question, CALLS};
 use crate::cut::FIELDS;
 
 /// What the numbers of 01 and 02 mean.
-const NUMBERS: [&str; 12] = [
+const NUMBERS: [&str; 13] = [
     "0 success",
     "1 too few bytes",
     "2 field cut",
@@ -17,6 +17,7 @@ const NUMBERS: [&str; 12] = [
     "9 wrong type",
     "10 wrong sizes",
     "11 not a name",
+    "12 top bits",
 ];
 
 /// The first row that a cut field can have: the four before it are in the sixteen bytes without which there is no record.
@@ -92,26 +93,27 @@ impl Tally {
     }
 
     /// Prints what was counted. It fails where another number of questions was asked, and where one of some numbers has none; if 2 is among
-    /// these, also where one of the fields has none, and where no text has replacements.
-    pub fn ended(&self, asked: u64, numbers: &[usize]) -> Result<(), String> {
+    /// these, also where one of the fields has none; and if there are texts, where none has replacements.
+    pub fn ended(&self, asked: u64, numbers: &[usize], texts: bool) -> Result<(), String> {
         if asked != self.count {
             return Err(format!("{asked} questions were asked and {} answered", self.count));
         }
         let made = self.made();
-        let (on_any, on_records) = ([&self.sorts, &self.rooms, &self.numbers], [&self.cut, &self.replacements]);
-        let on_records = if numbers.contains(&2) { &on_records[..] } else { &[] };
-        on_any.iter().chain(on_records).for_each(|table| table.print(&made));
+        let (cut, replacements) = (numbers.contains(&2).then_some(&self.cut), texts.then_some(&self.replacements));
+        let tables = [&self.sorts, &self.rooms, &self.numbers].into_iter().chain(cut).chain(replacements);
+        tables.for_each(|table| table.print(&made));
         let rows = numbers.iter().map(|number| &self.numbers.rows[*number]);
-        let fields = on_records.first().map_or(&[][..], |cut| &cut.rows);
+        let fields = cut.map_or(&[][..], |cut| &cut.rows);
         if let Some((missing, _)) = rows.chain(fields).find(|(_, counts)| counts.iter().sum::<u64>() == 0) {
             return Err(format!("no question came to {missing}"));
         }
         let replaced: u64 = self.replacements.rows[1..].iter().flat_map(|(_, counts)| counts).sum();
-        if replaced == 0 && !on_records.is_empty() {
+        if replaced == 0 && texts {
             return Err("no text has replacements".into());
         }
+        let on_texts = if texts { format!(", {replaced} on texts with replacements") } else { String::new() };
         println!(
-            "{} questions, {replaced} on texts with replacements: every answer and every lent byte as expected, every guard and input as it was",
+            "{} questions{on_texts}: every answer and every lent byte as expected, every guard and input as it was",
             self.count
         );
         Ok(())
