@@ -78,6 +78,20 @@ static int writes(uint32_t word, const char *letters) {
     return holds;
 }
 
+/* Whether one filled field has its word at each age: the first age knows three fields, each later one a field more, and the others are U. */
+static int filled(size_t field) {
+    uint8_t bytes[80];
+    int holds = 1;
+    for (size_t i = 0; i < 12; i++) {
+        uint32_t unknown = 0x0fffffffu << 2 * (3 + i) & 0x0fffffffu;
+        record(bytes, 64, FILLED[field].first, 1);
+        holds = holds && res_table_config_marks_word(bytes, 64, AGES[i]) == (FILLED[field].word | unknown);
+        record(bytes, 64, FILLED[field].last, 128);
+        holds = holds && res_table_config_marks_word(bytes, 64, AGES[i]) == (FILLED[field].word | unknown);
+    }
+    return holds;
+}
+
 /* The words of records, beside the letters of the older call and those of the word. */
 static void marked(void) {
     uint8_t bytes[80];
@@ -93,12 +107,7 @@ static void marked(void) {
         CHECK(res_table_config_marks_word(BLANK, 16, AGES[i]) == BLANKS[i][1]);
         CHECK(res_table_config_marks_word(BLANK, 80, AGES[i]) == BLANKS[i][1]);
     }
-    for (size_t i = 0; i < RES_TABLE_CONFIG_MARKS; i++) {
-        record(bytes, 64, FILLED[i].first, 1);
-        CHECK(res_table_config_marks_word(bytes, 64, 64) == FILLED[i].word);
-        record(bytes, 64, FILLED[i].last, 128);
-        CHECK(res_table_config_marks_word(bytes, 64, 64) == FILLED[i].word);
-    }
+    for (size_t i = 0; i < RES_TABLE_CONFIG_MARKS; i++) CHECK(filled(i));
     /* no byte behind the record counts, a field's or none */
     record(bytes, 16, 16, 255);
     CHECK(res_table_config_marks_word(bytes, 80, 64) == 0x00000015);
