@@ -23,6 +23,8 @@ unsafe extern "C" {
     fn probe_text(bytes: *const u8, len: usize, out: *mut u8, room: usize) -> usize;
     fn probe_order(a: *const u8, a_len: usize, b: *const u8, b_len: usize) -> u32;
     fn res_table_config_marks(bytes: *const u8, len: usize, age: u32, out: *mut u8, cap: usize) -> u64;
+    fn res_table_config_marks_word(bytes: *const u8, len: usize, age: u32) -> u64;
+    fn res_table_config_marks_letters(word: u32, out: *mut u8, cap: usize) -> u64;
     fn res_table_config_named(name: *const u8, len: usize, out: *mut u8, cap: usize) -> u64;
 }
 
@@ -58,10 +60,14 @@ enum Call {
     Name,
     /// The marks of as many bytes as the record takes: by hand in Rust, which gives the letters, beside the port's lent buffer.
     Marks,
+    /// The same marks in one word.
+    Word,
+    /// The letters of that word: a Rust array beside the port's lent buffer.
+    Letters,
 }
 
 /// Each case: its name, its call, and the record.
-const CASES: [(&str, Call, Parts); 10] = [
+const CASES: [(&str, Call, Parts); 16] = [
     ("parse", Call::Parse, BLANK),
     ("text-short", Call::Text, SHORT),
     ("text-middle", Call::Text, MIDDLE),
@@ -72,6 +78,12 @@ const CASES: [(&str, Call, Parts); 10] = [
     ("marks-16", Call::Marks, LEAST),
     ("marks-middle", Call::Marks, MIDDLE),
     ("marks-longest", Call::Marks, LONGEST),
+    ("word-16", Call::Word, LEAST),
+    ("word-middle", Call::Word, MIDDLE),
+    ("word-longest", Call::Word, LONGEST),
+    ("letters-16", Call::Letters, LEAST),
+    ("letters-middle", Call::Letters, MIDDLE),
+    ("letters-longest", Call::Letters, LONGEST),
 ];
 
 /// The bytes of a case's record, and those of its second one.
@@ -90,6 +102,11 @@ fn bytes_of(call: Call, parts: Parts) -> ([u8; 64], [u8; 64]) {
 /// As many of the bytes as the record takes.
 fn own(bytes: &[u8; 64]) -> &[u8] {
     &bytes[..bytes[0].into()]
+}
+
+/// The word of the marks whose letters are asked for.
+fn word(bytes: &[u8; 64]) -> u32 {
+    marks::word(own(bytes), AGE).unwrap_or(0)
 }
 
 /// 000's parse of 64 bytes.
@@ -118,6 +135,14 @@ fn port_marks(bytes: &[u8], age: u32, out: &mut [u8; 14]) -> u64 {
     unsafe { res_table_config_marks(bytes.as_ptr(), bytes.len(), age, out.as_mut_ptr(), 14) }
 }
 
+fn port_word(bytes: &[u8], age: u32) -> u64 {
+    unsafe { res_table_config_marks_word(bytes.as_ptr(), bytes.len(), age) }
+}
+
+fn port_letters(word: u32, out: &mut [u8; 14]) -> u64 {
+    unsafe { res_table_config_marks_letters(word, out.as_mut_ptr(), 14) }
+}
+
 /// Makes a call n times, and has the compiler believe that somebody looks at what it gives.
 fn times<A>(n: usize, mut call: impl FnMut() -> A) {
     for _ in 0..n {
@@ -129,13 +154,15 @@ fn times<A>(n: usize, mut call: impl FnMut() -> A) {
 fn rust_times(call: Call, parts: Parts, n: usize) {
     let (a, b) = bytes_of(call, parts);
     let blank = parse(&bytes_of(Call::Parse, BLANK).0);
-    let name = parse(&a).as_string();
+    let (name, word) = (parse(&a).as_string(), word(&a));
     match call {
         Call::Parse => times(n, || parse(black_box(&a)) == blank),
         Call::Text => times(n, || parse(black_box(&a)).as_string()),
         Call::Order(_) => times(n, || parse(black_box(&a)).cmp(&parse(black_box(&b)))),
         Call::Name => times(n, || named::read(black_box(name.as_bytes()))),
         Call::Marks => times(n, || marks::letters(black_box(own(&a)), black_box(AGE))),
+        Call::Word => times(n, || marks::word(black_box(own(&a)), black_box(AGE))),
+        Call::Letters => times(n, || marks::of_word(black_box(word))),
     }
 }
 
@@ -143,13 +170,15 @@ fn rust_times(call: Call, parts: Parts, n: usize) {
 fn port_times(call: Call, parts: Parts, n: usize) {
     let (a, b) = bytes_of(call, parts);
     let (mut out, mut record, mut letters) = ([0u8; 344], [0u8; 64], [0u8; 14]);
-    let name = parse(&a).as_string();
+    let (name, word) = (parse(&a).as_string(), word(&a));
     match call {
         Call::Parse => times(n, || port_blank(black_box(&a))),
         Call::Text => times(n, || port_text(black_box(&a), black_box(&mut out))),
         Call::Order(_) => times(n, || port_order(black_box(&a), black_box(&b))),
         Call::Name => times(n, || port_named(black_box(name.as_bytes()), black_box(&mut record))),
         Call::Marks => times(n, || port_marks(black_box(own(&a)), black_box(AGE), black_box(&mut letters))),
+        Call::Word => times(n, || port_word(black_box(own(&a)), black_box(AGE))),
+        Call::Letters => times(n, || port_letters(black_box(word), black_box(&mut letters))),
     }
 }
 
@@ -170,21 +199,37 @@ fn packed(why: marks::Refusal) -> u64 {
         marks::Refusal::FieldCut(row) => 2 << 32 | row as u64,
         marks::Refusal::NotAnAge => 3 << 32,
         marks::Refusal::UndecodedCut => 8 << 32,
+        marks::Refusal::TopBits => 12 << 32,
     }
 }
 
-/// Whether port and Rust give the same marks of a record at every number up to 70, the ages among them, and of every front of its bytes: the letters, or why
-/// there are none.
+/// Whether what the port answers, with what it wrote, is what the Rust gives: letters, or why there are none.
+fn same_letters(answer: u64, out: [u8; 14], given: Result<[u8; 14], marks::Refusal>) -> bool {
+    match given {
+        Ok(letters) => answer == 14 && out == letters,
+        Err(why) => answer == packed(why) && out == [0; 14],
+    }
+}
+
+/// Whether port and Rust give the same marks of a record at every number up to 70, the ages among them, and of every front of its bytes: the letters, the
+/// word and its letters, or why there are none.
 fn same_marks(bytes: &[u8; 64]) -> bool {
     let alike = |front: &[u8], age| {
-        let mut out = [0; 14];
-        let answer = port_marks(front, age, &mut out);
-        match marks::letters(front, age) {
-            Ok(letters) => answer == 14 && out == letters,
-            Err(why) => answer == packed(why) && out == [0; 14],
-        }
+        let (mut out, mut of_word) = ([0; 14], [0; 14]);
+        let (answer, word) = (port_marks(front, age, &mut out), port_word(front, age));
+        same_letters(answer, out, marks::letters(front, age))
+            && word == marks::word(front, age).map_or_else(packed, u64::from)
+            && same_letters(port_letters(word as u32, &mut of_word), of_word, marks::of_word(word as u32))
     };
     (0..=64).all(|length| (0..=70).all(|age| alike(&bytes[..length], age)))
+}
+
+/// Whether they give the same letters of words that have one bit, every bit from 28 up among them.
+fn same_bits() -> bool {
+    (0..32).map(|bit| 1 << bit).all(|word| {
+        let mut out = [0; 14];
+        same_letters(port_letters(word, &mut out), out, marks::of_word(word))
+    })
 }
 
 /// Whether port and Rust answer a case alike: whether it is blank, its text, the order both ways, the text read as a name, and its marks.
@@ -206,7 +251,7 @@ fn same(call: Call, parts: Parts) -> bool {
 fn run(words: &[&str]) -> i32 {
     match words {
         ["list"] => CASES.iter().for_each(|(name, _, _)| println!("{name}")),
-        ["same"] => return CASES.iter().any(|(_, call, parts)| !same(*call, parts)) as i32,
+        ["same"] => return (!same_bits() || CASES.iter().any(|(_, call, parts)| !same(*call, parts))) as i32,
         [side, name, n] => {
             let (Some((_, call, parts)), Ok(n)) = (CASES.iter().find(|case| case.0 == *name), n.parse()) else { return 2 };
             match *side {

@@ -1,5 +1,5 @@
 //! The marks of a record as one writes them by hand in Rust: each field is held to the age, to the record's size and to zero, which gives its mark, and
-//! the fourteen marks become letters. 000 has no marks; the port's call counts beside this one.
+//! the fourteen marks become letters, or a word from which letters are made. 000 has no marks; the port's calls count beside these.
 
 /// The fields after size, each from its start to its end.
 const FIELDS: [(usize, usize); 14] = [
@@ -22,13 +22,14 @@ const FIELDS: [(usize, usize); 14] = [
 /// How many bytes every record takes at the least: the fields that end there are never absent.
 const LEAST: usize = 16;
 
-/// Why there are no marks.
-#[derive(Clone, Copy, Debug, PartialEq)]
+/// Why there are no marks, or no letters of a word.
+#[derive(Clone, Copy)]
 pub enum Refusal {
     NotAnAge,
     TooFewBytes,
     FieldCut(usize),
     UndecodedCut,
+    TopBits,
 }
 
 /// What a field says.
@@ -66,7 +67,8 @@ fn whole(bytes: &[u8]) -> Result<usize, Refusal> {
     })
 }
 
-/// The marks of the record at the front of some bytes for a reader of an age.
+/// The marks of the record at the front of some bytes for a reader of an age; drawn into both callers, so that neither pays for the array of marks.
+#[inline(always)]
 fn marks(bytes: &[u8], age: u32) -> Result<[Mark; 14], Refusal> {
     if !matches!(age, 16 | 20 | 24 | 28 | 32 | 36 | 40 | 48 | 52 | 53 | 61 | 64) {
         return Err(Refusal::NotAnAge);
@@ -89,4 +91,17 @@ fn marks(bytes: &[u8], age: u32) -> Result<[Mark; 14], Refusal> {
 /// The marks as letters.
 pub fn letters(bytes: &[u8], age: u32) -> Result<[u8; 14], Refusal> {
     Ok(marks(bytes, age)?.map(Mark::letter))
+}
+
+/// The marks in one word, two bits to each, the first lowest.
+pub fn word(bytes: &[u8], age: u32) -> Result<u32, Refusal> {
+    Ok(marks(bytes, age)?.iter().rev().fold(0, |word, mark| word << 2 | *mark as u32))
+}
+
+/// The letters of a word.
+pub fn of_word(word: u32) -> Result<[u8; 14], Refusal> {
+    if word >> 28 != 0 {
+        return Err(Refusal::TopBits);
+    }
+    Ok(std::array::from_fn(|at| b"ABFU"[(word >> (2 * at) & 3) as usize]))
 }
