@@ -14,7 +14,7 @@ use Rattle.record.specs.Ages.{defaultAge}
 use Rattle.record.specs.Table.{startOf, endOf, widthOf, part, allZero}
 use Rattle.reading.specs.Reading.{taken}
 use Rattle.mark.specs.declared.Mark.{Mark}
-use Rattle.mark.specs.Word.{letterOf}
+use Rattle.mark.proofs.Words.{chosen-other}
 use Rattle.marking.specs.Marks.{markBetween, markOf, heldBack}
 use Rattle.marking.proofs.HeldBack.{held-exactly, unheld-zero}
 use Rattle.marking.proofs.TwoAges.{same-mark, unheld-both}
@@ -33,14 +33,10 @@ older-marks older newer s r f =
     ]
 
 -- a field that isn't past the age is known
-known-marked : (absent blank : Bool) → cond absent Mark.Absent (cond blank Mark.Blank Mark.Filled) ≡ Mark.Unknown → ⊥
-known-marked true blank e = let n = ap letterOf e in omega arith
-known-marked false true e = let n = ap letterOf e in omega arith
-known-marked false false e = let n = ap letterOf e in omega arith
-
 within-known : (a : ℕ) (s : List ℕ) (f : ℕ) → endOf f ≤ a → markOf a s f ≡ Mark.Unknown → ⊥
 unfolding markBetween
-within-known a s f h e = known-marked (ltb (taken s) (endOf f)) (allZero (part s (startOf f) (widthOf f))) (simp (le-ltb a (endOf f) h) at e)
+within-known a s f h e =
+    chosen-other Mark.Unknown Mark.Absent Mark.Blank Mark.Filled (ltb (taken s) (endOf f)) (allZero (part s (startOf f) (widthOf f))) tt tt tt (simp (le-ltb a (endOf f) h) at e)
 
 -- the fields before 12 end at the default age or before it, and no others
 first-twelve : (f : ℕ) → f < 12 → endOf f ≤ defaultAge

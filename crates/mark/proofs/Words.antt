@@ -1,14 +1,17 @@
 -- Marks and their word fix each other: two bits each, at their places, and nothing above them. Assumes nothing.
 use Prim.Native.Nat.{ℕ, zero, suc, _+_, _*_, _/_, _%_, _^_, _≤_, _<_}
-use mathlib.Core.Path.{_≡_, refl, sym, ap, ap₂, _∙_}
+use mathlib.Core.Path.{_≡_, refl, sym, ap, _∙_}
+use mathlib.Core.Bool.{Bool, not, cond}
 use mathlib.Core.List.{List, [], _∷_}
 use native.Mathlib.Nat.{pow-suc, pow-succ', zero-div, div-one, div-div-eq-div-mul, not-suc-le-zero, le-of-suc-le-suc}
 use native.Mathlib.Numerals.{add-one}
 use native.Mathlib.Omega.{arith}
-use lib.Dec.{eqb}
+use lib.Dec.{T, eqb}
 use lib.ListN.{length, getD, drop, length-drop}
 use lib.Seq.{drop-cons}
-use borrow.Author.Tests.{eqb-true}
+use borrow.Author.Tests.{eqb-true, eqb-false, not-true}
+use Rattle.laws.proofs.Tests.{passed}
+use Rattle.laws.proofs.Choice.{chosen}
 use Rattle.laws.proofs.Below.{in-row}
 use Rattle.mark.specs.declared.Mark.{Mark}
 use Rattle.mark.specs.Word.{bitsOf, markOfBits, inOneWord, marksIn}
@@ -31,6 +34,15 @@ bits-back Mark.Unknown = refl
 -- and two bits from their mark
 mark-back : (b : ℕ) → b < 4 → bitsOf (markOfBits b) ≡ b
 mark-back b h = eqb-true (bitsOf (markOfBits b)) b (in-row 4 (λ n. eqb (bitsOf (markOfBits n)) n) tt b h)
+
+-- whichever is chosen of three marks that have other bits than m, it isn't m
+other : (m x : Mark) → T (not (eqb (bitsOf x) (bitsOf m))) → x ≡ m → ⊥
+other m x t e = eqb-false (bitsOf x) (bitsOf m) (not-true _ (passed _ t)) (ap bitsOf e)
+
+pub chosen-other : (m x y z : Mark) (a b : Bool)
+    → T (not (eqb (bitsOf x) (bitsOf m))) → T (not (eqb (bitsOf y) (bitsOf m))) → T (not (eqb (bitsOf z) (bitsOf m)))
+    → cond a x (cond b y z) ≡ m → ⊥
+chosen-other m x y z a b p q r = chosen (λ n. n ≡ m → ⊥) a (other m x p) (chosen (λ n. n ≡ m → ⊥) b (other m y q) (other m z r))
 
 -- the lowest mark of a word, and the others two bits lower
 module _ (m : Mark) (rest : ℕ) where
