@@ -1,12 +1,11 @@
 -- A record's line for readers of two ages. Assumes nothing.
 use Prim.Native.Nat.{ℕ, _≤_, _<_}
 use mathlib.Core.Path.{_≡_, refl, sym, ap, _∙_}
-use mathlib.Core.Bool.{Bool, true, false, cond, _||_}
+use mathlib.Core.Bool.{true, cond, _||_}
 use mathlib.Core.List.{List}
 use native.Mathlib.Omega.{arith}
 use native.Mathlib.Decide.{decLe}
 use lib.Dec.{ltb, leb}
-use lib.ListN.{length}
 use borrow.Author.Tests.{le-ltb, lt-ltb, leb-true}
 use Rattle.laws.proofs.Tests.{or-second}
 use Rattle.laws.proofs.Below.{each-at}
@@ -15,10 +14,10 @@ use Rattle.record.specs.Table.{startOf, endOf, widthOf, part, allZero}
 use Rattle.reading.specs.Reading.{taken}
 use Rattle.mark.specs.declared.Mark.{Mark}
 use Rattle.mark.proofs.Words.{chosen-other}
-use Rattle.marking.specs.Marks.{markBetween, markOf, heldBack}
+use Rattle.marking.specs.Marks.{markBetween, markOf}
 use Rattle.marking.proofs.HeldBack.{held-exactly, unheld-zero}
 use Rattle.marking.proofs.TwoAges.{same-mark, unheld-both}
-use Rattle.lines.specs.TwoAges.{OlderMarks, LastThree, SameText, Between, OlderHolds}
+use Rattle.lines.specs.TwoAges.{OlderMarks, LastThree, SameText, OlderHolds}
 
 -- a field past the age is unknown
 past-unknown : (a : ℕ) (s : List ℕ) (f : ℕ) → ltb a (endOf f) ≡ true → markOf a s f ≡ Mark.Unknown

@@ -1,16 +1,15 @@
 -- Letters and the word that they stand for fix each other, and every number below 2^28 has letters. Assumes nothing.
-use Prim.Native.Nat.{ℕ, zero, suc, _^_, _<_}
+use Prim.Native.Nat.{ℕ, _^_, _<_}
 use mathlib.Core.Path.{_≡_, refl, sym, ap, _∙_}
 use mathlib.Core.Bool.{cond}
 use mathlib.Core.List.{List, [], _∷_, map}
 use native.Mathlib.Omega.{arith}
 use lib.Dec.{eqb}
-use lib.ListN.{length}
 use Rattle.answers.proofs.OneToOne.{one-to-one}
 use Rattle.buffer.proofs.Writing.{written-fits}
 use Rattle.mark.specs.declared.Mark.{Mark}
 use Rattle.mark.specs.Word.{letterOf, inOneWord, marksIn, lettersOf}
-use Rattle.mark.specs.Claims.{StandFor, HasLetters, EachHasLetters, OneWord, OneSpelling}
+use Rattle.mark.specs.Claims.{StandFor, EachHasLetters, OneWord, OneSpelling}
 use Rattle.mark.proofs.Words.{word-back, word-below}
 use Rattle.mark.proofs.Letters.{letters-length, letters-are}
 use Rattle.mark.proofs.Exactly.{letters-given}

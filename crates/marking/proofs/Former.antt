@@ -1,6 +1,6 @@
 -- The letters of the word are the marks of the former layout, in which each field's letter stood for itself. Assumes nothing.
 use Prim.Native.Nat.{ℕ}
-use mathlib.Core.Path.{_≡_, refl, ap, _∙_}
+use mathlib.Core.Path.{_≡_, refl}
 use mathlib.Core.List.{List, [], _∷_, map}
 use Rattle.mark.specs.Word.{letterOf, lettersOf}
 use Rattle.mark.proofs.Letters.{letters-are}

@@ -4,7 +4,6 @@ use mathlib.Core.Path.{_≡_, refl, sym, ap, _∙_}
 use mathlib.Core.Bool.{true, true≢false}
 use mathlib.Core.List.{List}
 use native.Mathlib.Omega.{arith}
-use lib.ListN.{length, getD}
 use lib.Seq.{ext-getD}
 use Rattle.answers.specs.declared.Told.{Told}
 use Rattle.answers.specs.Tells.{success, refusal}
@@ -16,7 +15,6 @@ use Rattle.mark.proofs.Words.{bits-at, bits-back, word-below}
 use Rattle.mark.proofs.Top.{top-clear, top-exactly}
 use Rattle.mark.proofs.Exactly.{letters-given}
 use Rattle.record.specs.Ages.{isAge}
-use Rattle.record.specs.Table.{endOf}
 use Rattle.reading.specs.Reading.{ifWhole, ifAge, taken}
 use Rattle.reading.proofs.Whole.{age-known, whole-map}
 use Rattle.marking.specs.declared.Marked.{Marked}

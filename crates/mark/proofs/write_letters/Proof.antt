@@ -1,5 +1,5 @@
 -- 12, then 5, then all fourteen letters. Assumes nothing.
-use mathlib.Core.Path.{_≡_, sym, _∙_}
+use mathlib.Core.Path.{sym, _∙_}
 use native.Mathlib.Omega.{arith}
 use borrow.Author.Needs.{needs}
 use Rattle.buffer.proofs.Writing.{put-written, written-short}

@@ -1,8 +1,6 @@
 -- Each way out gives the mark that 01 says. Assumes nothing.
-use mathlib.Core.Path.{_≡_, sym, ap, _∙_}
+use mathlib.Core.Path.{sym, ap, _∙_}
 use mathlib.Core.Bool.{Bool, cond}
-use native.Mathlib.Omega.{arith}
-use borrow.Author.Needs.{needs}
 use denote.Ref.{now}
 use Rattle.mark.specs.declared.Mark.{Mark}
 use Rattle.marking.proofs.Marking.{mark-unknown, mark-absent, mark-held}

@@ -1,5 +1,5 @@
 -- The letters of the word that is given, or its refusal. Assumes nothing.
-use mathlib.Core.Path.{_≡_, sym, ap, _∙_}
+use mathlib.Core.Path.{sym, ap, _∙_}
 use borrow.Author.Needs.{needs}
 use denote.Ref.{now}
 use Rattle.marking.specs.declared.Marked.{Marked}

@@ -1,9 +1,5 @@
 -- The letters of the word are put. Assumes nothing.
-use mathlib.Core.Path.{_≡_, ap, subst}
 use borrow.Author.Needs.{needs}
-use denote.Ref.{now}
-use Rattle.buffer.specs.Put.{Put}
-use Rattle.mark.specs.Word.{lettersOf}
 use Rattle.marking.specs.Marks.{lettersIn}
 use Rattle.marking.proofs.put_marks.Statement.{statement}
 use Rattle.marking.proofs.put_marks.Tie as tie
