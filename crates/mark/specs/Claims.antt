@@ -22,17 +22,19 @@ pub record StandFor (letters : List ℕ) (word : ℕ) : Type 0 where
   pub letters-are : map letterOf marks ≡ letters
   pub word-is : inOneWord marks ≡ word
 
--- every number below 2^28 has letters: given room they are written, and their word is that number again
+-- a number has letters: given room they are written, and their word is that number again
 pub record HasLetters (word : ℕ) : Type 0 where
   pub given : (old : List ℕ) → 14 ≤ length old → lettersOutcome word old ≡ wrote (lettersOf word) old
   pub again : StandFor (lettersOf word) word
 
+-- so has every number below 2^28
 abbrev pub EachHasLetters : Type 0
 EachHasLetters = (word : ℕ) → word < 2 ^ 28 → HasLetters word
 
--- letters stand for one word only, which is below 2^28 and has no other letters
+-- letters stand for one word only
 abbrev pub OneWord : Type 0
 OneWord = (letters : List ℕ) (v w : ℕ) → StandFor letters v → StandFor letters w → v ≡ w
 
+-- and it is below 2^28 and has these letters only
 abbrev pub OneSpelling : Type 0
 OneSpelling = (letters : List ℕ) (word : ℕ) → StandFor letters word → (word < 2 ^ 28) × (lettersOf word ≡ letters)

@@ -23,8 +23,8 @@ marked-back : (r : Marked) → back Marked.Word Marked.Refused (markedTells r) �
 marked-back (Marked.Word word) = ok-back Marked.Word Marked.Refused word
 marked-back (Marked.Refused why) = refused-back Marked.Word Marked.Refused why
 
-pub one-word : {t : Told} (r s : Marked) → markedTells r ≡ t → markedTells s ≡ t → r ≡ s
-one-word r s p q = tells-one markedTells Marked.Word Marked.Refused marked-back r s (p ∙ sym q)
+pub one-marked : {t : Told} (r s : Marked) → markedTells r ≡ t → markedTells s ≡ t → r ≡ s
+one-marked r s p q = tells-one markedTells Marked.Word Marked.Refused marked-back r s (p ∙ sym q)
 
 -- the answer of an amount
 answered : ℕ → Held
@@ -46,8 +46,8 @@ one-held r s p q = tells-one heldTells answered Held.Refused held-back r s (p �
 pub one-late : (s : List ℕ) (n a : ℕ) (r t : Bool) → r ≡ lateBytes s n a → t ≡ lateBytes s n a → r ≡ t
 one-late s n a r t p q = one-answer (lateBytes s n) a r t p q
 
-pub one-told-word : (marked : Marked) (r t : Told) → r ≡ markedTells marked → t ≡ markedTells marked → r ≡ t
-one-told-word marked r t p q = one-answer markedTells marked r t p q
+pub one-told-marked : (marked : Marked) (r t : Told) → r ≡ markedTells marked → t ≡ markedTells marked → r ≡ t
+one-told-marked marked r t p q = one-answer markedTells marked r t p q
 
 pub one-told : (held : Held) (r t : Told) → r ≡ heldTells held → t ≡ heldTells held → r ≡ t
 one-told held r t p q = one-answer heldTells held r t p q

@@ -21,7 +21,7 @@ use Rattle.marking.specs.declared.Marked.{Marked}
 use Rattle.marking.specs.Marks.{markIn, markOf, wordIn, wordOf, lettersIn, markedTells, wordTold, marksOutcome}
 use Rattle.marking.specs.Word.{TopFourZero, BitsOfField, WordFixesMarks, LettersOfWord, EqualBits}
 use Rattle.marking.proofs.Answering.{by-answer}
-use Rattle.marking.proofs.OneOutcome.{one-word}
+use Rattle.marking.proofs.OneOutcome.{one-marked}
 use Rattle.marking.proofs.Marking.{marksFrom, field-mark}
 use Rattle.marking.proofs.TwoAges.{same-mark}
 
@@ -80,4 +80,4 @@ lettersBy old (Marked.Refused why) = refused why old
 
 pub marks-by : (a : ℕ) (s old : List ℕ) (r : Marked) → markedTells r ≡ wordTold a s → marksOutcome a s old ≡ lettersBy old r
 marks-by a s old r e =
-    letters-of-word a s old ∙ by-answer markedTells (λ p q same. one-word p q same refl) a s Marked.Refused (Marked.Word (wordOf a s)) (lettersBy old) r e
+    letters-of-word a s old ∙ by-answer markedTells (λ p q same. one-marked p q same refl) a s Marked.Refused (Marked.Word (wordOf a s)) (lettersBy old) r e
