@@ -36,6 +36,9 @@ impl Mark {
 // The letter of each mark, by its two bits.
 const LETTERS: [u8; 4] = [b'A', b'B', b'F', b'U'];
 
+// The first number with a bit above those of fourteen marks: 2^28.
+const ABOVE: u32 = 268435456;
+
 // Puts the letters of the fourteen marks that a word has in its lowest 28 bits. It refuses nothing.
 pub fn put_letters(word: u32, at: usize, out: &mut [u8]) -> usize
     ensures { λ r. ⌜ Put (now (out .entry)) at (lettersOf word) (now (out .exit)) r ⌝ }
@@ -57,7 +60,7 @@ pub fn put_letters(word: u32, at: usize, out: &mut [u8]) -> usize
 pub fn write_letters(word: u32, out: &mut [u8]) -> Written
     ensures { λ r. ⌜ outcome r (now (out .exit)) ≡ lettersOutcome word (now (out .entry)) ⌝ }
 {
-    if word >= 268435456 {
+    if word >= ABOVE {
         return Written::Refused(Refusal::TopBits);
     }
     if out.len() < 14 {
