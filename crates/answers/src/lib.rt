@@ -1,3 +1,4 @@
+#![tactic(auto)]
 // What every call of the library answers: a success with its amount, or a refusal with 01's number.
 ghost use Rattle.std.specs.Prelude.{◌≡◌};
 ghost use Rattle.answers.specs.Counted.{counted_with};
@@ -5,7 +6,7 @@ ghost use Rattle.answers.specs.Numbers.{carried_by, number_of};
 ghost use Rattle.answers.specs.Tells.{packed_of, refusal, success, taken_tells, written_tells};
 
 // Why a call is refused.
-#[derive(Drop)]
+#[derive(Clone, Copy)]
 pub enum Refusal {
     // There are fewer bytes than stand in front in any case: 16 of a record, 20 of a type chunk.
     TooFewBytes,
@@ -35,7 +36,7 @@ pub enum Refusal {
 
 // What an answer says in 01's numbers. A success has number 0 and an amount: the bytes taken or written, or what its answer enum says, as
 // the order of two records or whether one is held back, and carries 0. A refusal has its number, amount 0, and what it carries.
-#[derive(Drop)]
+#[derive(Clone, Copy)]
 pub struct Told {
     pub number: u32,
     pub amount: usize,
@@ -43,21 +44,21 @@ pub struct Told {
 }
 
 // The answer of a call that takes bytes from the front of what it is given.
-#[derive(Drop)]
+#[derive(Clone, Copy)]
 pub enum Taken {
     Took(usize),
     Refused(Refusal),
 }
 
 // The answer of a call that writes into a lent buffer.
-#[derive(Drop)]
+#[derive(Clone, Copy)]
 pub enum Written {
     Wrote(usize),
     Refused(Refusal),
 }
 
 // The answer of a call that writes a text, and how many replacements the text has. A refused call made none.
-#[derive(Drop)]
+#[derive(Clone, Copy)]
 pub struct Counted {
     pub answer: Written,
     pub replacements: usize,

@@ -45,7 +45,7 @@ unfolding put_at reach
 put_append o at [] v = refl
 put_append o at (b ∷ u) v =
     elim (dec_lt at (length o)) [
-      | yes h ↦ rw (lt-ltb, ← length-set o at b) (put_append (set o at b) (suc at) u v)
+      | yes h ↦ rw lt-ltb (rw (length-set o at b) at (put_append (set o at b) (suc at) u v))
       | no h ↦ let g : length o ≤ at = omega arith in
           rw le-ltb (put_over o at ((b ∷ u) ++ v) g ∙ sym (put_over o at v g) ∙ ap (λ (l : List ℕ). put_at l at v) (sym (put_over o at (b ∷ u) g)))
     ]

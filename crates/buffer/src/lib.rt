@@ -1,3 +1,4 @@
+#![tactic(auto)]
 // Writing into a lent buffer.
 //
 // `write` is for every call that has its bytes at hand: all of them, or refusal 5 and nothing changed. The `put`s are machinery for

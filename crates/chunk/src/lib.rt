@@ -1,3 +1,4 @@
+#![tactic(auto)]
 // One resource type chunk: its head, and the record within its header. Its entries aren't read.
 ghost use Rattle.std.specs.Prelude.{◌≡◌, ◌+◌, ◌<◌, ◌≤◌, ◌||◌, ltb, length};
 ghost use Rattle.answers.specs.Tells.{refusal, success, taken_tells};

@@ -1,3 +1,2 @@
-pub mod TheReader
 pub mod OneOutcome
 pub mod Stops

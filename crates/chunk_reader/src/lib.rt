@@ -1,3 +1,4 @@
+#![tactic(auto)]
 // The chunk reader: a struct that holds the lent bytes, its offset and its age, over the covered step of chunk_runs.
 ghost use Rattle.std.specs.Prelude.{◌≡◌};
 ghost use Rattle.runs.specs.Runs.{step_outcome};

@@ -2,7 +2,7 @@
 use Prim.Native.Nat.{ℕ, zero, suc, ◌+◌, ◌-◌, ◌/◌, ◌%◌, ◌≤◌, ◌<◌}
 use mathlib.Core.Path.{◌≡◌, refl, sym, ap, ◌∙◌}
 use mathlib.Core.Bool.{Bool, true, false}
-use mathlib.Core.List.{List, [], ◌∷◌, ◌++◌, append_nil}
+use mathlib.Core.List.{List, [], ◌∷◌, ◌++◌, append-nil}
 use native.Mathlib.Nat.{le_of_suc-le-suc, not-suc-le-zero}
 use native.Mathlib.Omega.{arith}
 use lib.Dec.{lit<}
@@ -166,7 +166,7 @@ can_be_chunked x r twelve whole fits x-bytes r-bytes =
         header = omega arith;
         size = omega (arith, length-append x r);
         more = [];
-        holds = ap (take (header - 20)) (drop_at x r 12 twelve) ∙ take_all (header - 20) r (omega (arith, is)) ∙ sym (append_nil r);
+        holds = ap (take (header - 20)) (drop_at x r 12 twelve) ∙ take_all (header - 20) r (omega (arith, is)) ∙ sym (append-nil r);
       },
       bytes_both (all_header n) (x ++ r) (each_byte (all_header n) (lit< tt, (lit< tt, (low, (high, (low, (high, (lit< tt, (lit< tt, tt)))))))))
           (bytes_both x r x-bytes r-bytes),

@@ -1,3 +1,4 @@
+#![tactic(auto)]
 // Runs of type chunks, end to end: what stands at an offset, a step there, and the walk to where a run stops.
 ghost use Rattle.std.specs.Prelude.{◌≡◌};
 ghost use Rattle.runs.specs.Runs.{step_outcome};

@@ -1,3 +1,4 @@
+#![tactic(auto)]
 // Bytes held against bytes.
 ghost use Rattle.std.specs.Prelude.{◌≡◌, ◌+◌, ◌≤◌, drop, length};
 ghost use Rattle.compare.specs.Compare.{same, begins_with, up_to};

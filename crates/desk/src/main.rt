@@ -1,3 +1,4 @@
+#![tactic(auto)]
 // The clerk's desk: the first argument is a word that says what is to be done, and each word has a module.
 mod given;
 mod kind;
@@ -10,7 +11,7 @@ use compare::same;
 const ROOM: usize = 131072;
 
 // What a word asks for.
-#[derive(Drop)]
+#[derive(Clone, Copy)]
 enum Task {
     Name,
     Words,

@@ -1,3 +1,4 @@
+#![tactic(auto)]
 // An entry of an index: a record's key, the offset where it stands first in its run, and how often it stands there.
 ghost use Rattle.buffer.specs.Put.{Put};
 ghost use Rattle.entries.specs.Entry.{entry_of, little4, little8};

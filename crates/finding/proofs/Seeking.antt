@@ -1,7 +1,7 @@
 -- Bytes held against a key, the key that is put, and what is found at a place. Assumes nothing.
 use Prim.Native.Nat.{ℕ, ◌+◌, ◌*◌, ◌≤◌, ◌<◌}
 use mathlib.Core.Path.{◌≡◌, refl, sym, ap, ◌∙◌}
-use mathlib.Core.List.{List, [], ◌∷◌, ◌++◌, append_nil}
+use mathlib.Core.List.{List, [], ◌∷◌, ◌++◌, append-nil}
 use mathlib.Core.Bool.{Bool, true, false, true≢false}
 use native.Mathlib.Numerals.{add-one}
 use native.Mathlib.Omega.{arith}
@@ -77,7 +77,7 @@ module _ (e k : List ℕ) where
 pub key_filled : (r : ResTableConfig) {old new : List ℕ} {n : ℕ} → Sound r → length old ≡ 60 → Put old 0 (key_of r) new n → new ≡ key_of r
 key_filled r {old} s h p =
     let l = key_long r s in
-    front_is p (omega arith) ∙ ap (λ (w : List ℕ). key_of r ++ w) (drop_of_length-le old {i = length (key_of r)} (omega arith)) ∙ append_nil (key_of r)
+    front_is p (omega arith) ∙ ap (λ (w : List ℕ). key_of r ++ w) (drop_of_length-le old {i = length (key_of r)} (omega arith)) ∙ append-nil (key_of r)
 
 -- what is found at the place
 module _ (e : List ℕ) (r : ResTableConfig) {k : List ℕ} {place : ℕ} (key : k ≡ key_of r) (at : place ≡ place_of e k) where

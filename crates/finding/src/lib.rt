@@ -1,3 +1,4 @@
+#![tactic(auto)]
 // Finding a record's entry among the entries of an index. The entries may be any bytes, so they are looked through from the first on:
 // halving would ask that they stand in order. Bytes behind the last whole entry aren't looked at.
 ghost use Rattle.std.specs.Prelude.{◌≡◌, ◌+◌, ◌<◌, ◌≤◌, eqb, length};
@@ -17,14 +18,14 @@ const ENTRY: usize = 76;
 const LOOKED_AT: usize = 326417514344;
 
 // The place of an entry, counted from 0, or that there is none.
-#[derive(Drop)]
+#[derive(Clone, Copy)]
 pub enum Found {
     Entry(usize),
     Nothing,
 }
 
 // The answer of a call that looks for the record at the front of some bytes: no place is above 4,294,967,293.
-#[derive(Drop)]
+#[derive(Clone, Copy)]
 pub enum Sought {
     Entry(u32),
     Nothing,

@@ -1,9 +1,10 @@
+#![tactic(auto)]
 // The flags that say in which ways configurations differ, and two more that an entry has.
 ghost use Rattle.std.specs.Prelude.{◌≡◌, get_or};
 ghost use Rattle.flags.specs.Flags.{flags};
 
 // A set of flags, a bit for each.
-#[derive(Drop)]
+#[derive(Clone, Copy)]
 pub struct ResTableConfigFlags(pub u32);
 
 impl ResTableConfigFlags {

@@ -60,7 +60,7 @@ between_back front back s n =
     (λ t e h. absurd (omega arith))
 
 -- a number, by the grammar
-pub number_gives : {front back w : List ℕ} {v : ℕ} → Makes (Form.number front back) v w → number_value front back w ≡ v
+pub number_gives : {front back : List ℕ} {v : ℕ} {w : List ℕ} → Makes (Form.number front back) v w → number_value front back w ≡ v
 number_gives (Makes.number {front = f} {back = b} {n = n} h) = between_forth f b n h.high
 
 pub number_makes : (front back s : List ℕ) (v : ℕ) → number_value front back s ≡ v → 1 ≤ v → Makes (Form.number front back) v s
@@ -93,7 +93,7 @@ named_or_not n =
     none h = absurd (omega arith)
 
 -- a density that has no word, by the grammar
-pub density_gives : {w : List ℕ} {v : ℕ} → Makes Form.density v w → density_value w ≡ v
+pub density_gives : {v : ℕ} {w : List ℕ} → Makes Form.density v w → density_value w ≡ v
 unfolding density_value
 density_gives (Makes.density {n = n} h e) = ap (λ (m : ℕ). unnamed (density_of m)) (between_forth [] (ascii "dpi") n h.high) ∙ ap unnamed e
 

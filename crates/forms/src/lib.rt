@@ -1,3 +1,4 @@
+#![tactic(auto)]
 // The forms of parts that hold numbers: the value that each gives to bytes, and 0 where it doesn't make them.
 ghost use Rattle.std.specs.Prelude.{◌≡◌};
 ghost use Rattle.forms.specs.Values.{proper, number_before, number_value, unnamed, density_value, two_numbers, pair_value, sides_value, minor_value};

@@ -2,7 +2,7 @@
 use Prim.Native.Nat.{ℕ, zero, suc, ◌+◌, ◌*◌, ◌/◌, ◌%◌, ◌≤◌}
 use mathlib.Core.Path.{◌≡◌, refl, ap, ◌∙◌}
 use mathlib.Core.Bool.{Bool, true, false, not, ◌&&◌}
-use mathlib.Core.List.{List, [], ◌∷◌, ◌++◌, append_assoc, append_nil}
+use mathlib.Core.List.{List, [], ◌∷◌, ◌++◌, append_assoc, append-nil}
 use native.Mathlib.Omega.{arith}
 use lib.Dec.{eqb}
 use lib.ListN.{get_or, length}
@@ -126,7 +126,7 @@ number_said s front back f v w (Makes.number {n = n} h) = f n h ∙ place_is (so
 
 -- with no word behind
 label_said : (s : ℕ) (front : List ℕ) → ((n : ℕ) → Within 1 65535 n → place_at s n ≡ label_place front n) → SaysRow (s, Form.number front [])
-label_said s front f = number_said s front [] (λ n h. rw (append_nil (decimal n)) (f n h))
+label_said s front f = number_said s front [] (λ n h. rw (append-nil (decimal n)) (f n h))
 
 -- dp behind
 dp_said : (s : ℕ) (front : List ℕ) → ((n : ℕ) → place_at s n ≡ dp_place front n) → SaysRow (s, Form.number front (ascii "dp"))
@@ -142,7 +142,7 @@ unfolding place_at places_at
 version_said n h =
     let e : n % 65536 ≡ n = omega arith in
     let g : n / 65536 ≡ 0 = omega arith in
-    rw (e, g, append_nil (decimal n))
+    rw (e, g, append-nil (decimal n))
 
 -- and with one
 minor_said : SaysRow (slot.version, Form.minor)

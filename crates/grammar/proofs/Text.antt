@@ -2,7 +2,7 @@
 use Prim.Native.Nat.{ℕ, zero, suc, ◌%◌, ◌≤◌}
 use mathlib.Core.Path.{◌≡◌, refl, sym, ap, ◌∙◌}
 use mathlib.Core.Bool.{Bool, true, false, true≢false}
-use mathlib.Core.List.{List, [], ◌∷◌, ◌++◌, append_assoc, append_nil}
+use mathlib.Core.List.{List, [], ◌∷◌, ◌++◌, append_assoc, append-nil}
 use native.Mathlib.Nat.{zero-mod}
 use native.Mathlib.Omega.{arith}
 use lib.Dec.{eqb}
@@ -43,7 +43,7 @@ one_as_two : (t : List ℕ) (a b : Bool) (u w : List ℕ) (ps : List Place) → 
     → say_all t ((a, u ++ behind b (ascii "-r") w) ∷ ps) ≡ say_all t ((a, u) ∷ (b, ascii "r" ++ w) ∷ ps)
 unfolding say_all say
 one_as_two t false false u w ps h = refl
-one_as_two t true false u w ps h = rw (append_nil u)
+one_as_two t true false u w ps h = rw (append-nil u)
 one_as_two t false true u w ps h = absurd (true≢false (sym (h refl).0))
 one_as_two t true true u w ps h =
     let front = t ++ dash_after t in

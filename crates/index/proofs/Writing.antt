@@ -1,7 +1,7 @@
 -- Entries one after the other, and how long they are. Assumes nothing.
 use Prim.Native.Nat.{ℕ, zero, suc, ◌+◌, ◌*◌, ◌-◌, ◌/◌, ◌%◌, ◌≤◌, ◌<◌, min}
 use mathlib.Core.Path.{◌≡◌, refl, sym, ap, ◌∙◌}
-use mathlib.Core.List.{List, [], ◌∷◌, ◌++◌, map, append_assoc, append_nil}
+use mathlib.Core.List.{List, [], ◌∷◌, ◌++◌, map, append_assoc, append-nil}
 use mathlib.Core.Bool.{Bool, true, false, cond, ◌&&◌}
 use native.Mathlib.Omega.{arith}
 use native.Mathlib.Nat.{one-mul}
@@ -50,7 +50,7 @@ module _ (s : List ℕ) (b : Bool) where
   entries_more : (l : List ℕ) (j : ℕ) → j < length l → entries_held s b (take (suc j) l) ≡ entries_held s b (take j l) ++ entry_held (get_or l j 0)
   unfolding entries_with
   entries_more [] j h = absurd (omega arith)
-  entries_more (w ∷ l) zero h = append_nil (entry_held w)
+  entries_more (w ∷ l) zero h = append-nil (entry_held w)
   entries_more (w ∷ l) (suc j) h =
       ap (λ (k : List ℕ). entry_held w ++ k) (entries_more l j (omega arith))
       ∙ sym (append_assoc (entry_held w) (entries_held s b (take j l)) _)

@@ -11,7 +11,7 @@ use order_at::order_at;
 use runs::{Front, front_at};
 
 // Where a record is sought: how many of the held ones are Less, and whether the next is Equal.
-#[derive(Drop)]
+#[derive(Clone, Copy)]
 pub(crate) struct Seat {
     pub(crate) at: usize,
     pub(crate) met: bool,

@@ -1,3 +1,4 @@
+#![tactic(auto)]
 // The index of a run: an entry for each distinct record, in rising order, with where it stands first and how often.
 //
 // `held` walks the run once and holds a number for each distinct record, in 8 KB of the call's own: nothing lent is touched before it is known
@@ -17,14 +18,14 @@ use reading::lesser;
 use runs::{RunEnd, walk};
 
 // The answer of a call that writes an index: how many entries.
-#[derive(Drop)]
+#[derive(Clone, Copy)]
 pub enum Entries {
     Wrote(usize),
     Refused(Refusal),
 }
 
 // The answer of indexing a run, and how many records the run has, where it stops and why.
-#[derive(Drop)]
+#[derive(Clone, Copy)]
 pub struct Indexed {
     pub answer: Entries,
     pub end: RunEnd,

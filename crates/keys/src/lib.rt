@@ -1,3 +1,4 @@
+#![tactic(auto)]
 // A record's key: sixty bytes that are compared byte by byte as 01 compares records. Whoever keeps many records in order keeps their
 // keys, and needn't read the records again.
 ghost use Rattle.std.specs.Prelude.{◌++◌, ◌≡◌};

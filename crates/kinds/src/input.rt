@@ -3,7 +3,7 @@ ghost use Rattle.std.specs.Prelude.{◌≡◌};
 ghost use Rattle.kinds.specs.Input.{touchscreen_of, keys_hidden_of, keyboard_of, nav_hidden_of, navigation_of};
 
 // What a screen is touched with.
-#[derive(Drop)]
+#[derive(Clone, Copy)]
 pub enum Touchscreen {
     Any,
     NoTouch,
@@ -28,7 +28,7 @@ impl Touchscreen {
 }
 
 // Whether the keys are out of reach; 000's `Unknown` is never made and is dropped.
-#[derive(Drop)]
+#[derive(Clone, Copy)]
 pub enum KeysHidden {
     Any,
     No,
@@ -51,7 +51,7 @@ impl KeysHidden {
 }
 
 // The type of keyboard.
-#[derive(Drop)]
+#[derive(Clone, Copy)]
 pub enum Keyboard {
     Any,
     NoKeys,
@@ -76,7 +76,7 @@ impl Keyboard {
 }
 
 // Whether the means of navigation is out of reach.
-#[derive(Drop)]
+#[derive(Clone, Copy)]
 pub enum NavHidden {
     Any,
     No,
@@ -99,7 +99,7 @@ impl NavHidden {
 }
 
 // The means of navigation.
-#[derive(Drop)]
+#[derive(Clone, Copy)]
 pub enum Navigation {
     Any,
     NoNav,

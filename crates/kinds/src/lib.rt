@@ -1,3 +1,4 @@
+#![tactic(auto)]
 // The sixteen kinds of 000, each read from the number that a record holds.
 mod input;
 mod mode;
@@ -10,7 +11,7 @@ pub use screen::{
 };
 
 // One of the sixteen kinds.
-#[derive(Drop)]
+#[derive(Clone, Copy)]
 pub enum Kind {
     GrammaticalGender(GrammaticalGender),
     LayoutDir(LayoutDir),

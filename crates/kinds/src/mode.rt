@@ -3,7 +3,7 @@ ghost use Rattle.std.specs.Prelude.{◌≡◌};
 ghost use Rattle.kinds.specs.Mode.{grammatical_gender_of, ui_mode_of, ui_mode_night_of};
 
 // The grammatical gender of who is spoken to.
-#[derive(Drop)]
+#[derive(Clone, Copy)]
 pub enum GrammaticalGender {
     Neuter,
     Feminine,
@@ -26,7 +26,7 @@ impl GrammaticalGender {
 }
 
 // What the device is used as.
-#[derive(Drop)]
+#[derive(Clone, Copy)]
 pub enum UIMode {
     Any,
     Normal,
@@ -59,7 +59,7 @@ impl UIMode {
 }
 
 // Whether it is night.
-#[derive(Drop)]
+#[derive(Clone, Copy)]
 pub enum UIModeNight {
     Any,
     No,

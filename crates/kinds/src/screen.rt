@@ -3,7 +3,7 @@ ghost use Rattle.std.specs.Prelude.{◌≡◌};
 ghost use Rattle.kinds.specs.Screen.{layout_dir_of, screen_size_of, screen_long_of, screen_round_of, wide_color_gamut_of, hdr_of, orientation_of, density_of, density_number};
 
 // Which way text and layout run.
-#[derive(Drop)]
+#[derive(Clone, Copy)]
 pub enum LayoutDir {
     Ltr,
     Rtl,
@@ -24,7 +24,7 @@ impl LayoutDir {
 }
 
 // How large a screen is, in four steps.
-#[derive(Drop)]
+#[derive(Clone, Copy)]
 pub enum ScreenSize {
     Small,
     Normal,
@@ -49,7 +49,7 @@ impl ScreenSize {
 }
 
 // Whether a screen is longer than usual.
-#[derive(Drop)]
+#[derive(Clone, Copy)]
 pub enum ScreenLong {
     No,
     Yes,
@@ -70,7 +70,7 @@ impl ScreenLong {
 }
 
 // Whether a screen is round.
-#[derive(Drop)]
+#[derive(Clone, Copy)]
 pub enum ScreenRound {
     No,
     Yes,
@@ -91,7 +91,7 @@ impl ScreenRound {
 }
 
 // Whether a screen shows a wide range of colours.
-#[derive(Drop)]
+#[derive(Clone, Copy)]
 pub enum WideColorGamut {
     No,
     Yes,
@@ -112,7 +112,7 @@ impl WideColorGamut {
 }
 
 // Whether a screen has a high dynamic range.
-#[derive(Drop)]
+#[derive(Clone, Copy)]
 pub enum Hdr {
     No,
     Yes,
@@ -133,7 +133,7 @@ impl Hdr {
 }
 
 // Which way a screen is held.
-#[derive(Drop)]
+#[derive(Clone, Copy)]
 pub enum Orientation {
     Any,
     Port,
@@ -158,7 +158,7 @@ impl Orientation {
 }
 
 // Dots per inch: seven by name, any other as it is; and three that are no count, of which Default alone has no words.
-#[derive(Drop)]
+#[derive(Clone, Copy)]
 pub enum Density {
     Default,
     Low,

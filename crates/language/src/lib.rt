@@ -1,3 +1,4 @@
+#![tactic(auto)]
 // Language and region, each of two bytes: unpacked, and put or written as a subtag.
 ghost use Rattle.std.specs.Prelude.{◌∷◌, [], ◌≡◌, ◌≤◌, length};
 ghost use Rattle.buffer.specs.Counted.{counted_outcome, counting};

@@ -1,3 +1,4 @@
+#![tactic(auto)]
 // The languages and the regions of a directory name, of two or three letters: the value of each, and 0 where bytes are none.
 ghost use Rattle.std.specs.Prelude.{◌≡◌};
 ghost use Rattle.letters.specs.Letters.{within, two, three, language_value, region_value};

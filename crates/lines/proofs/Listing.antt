@@ -40,8 +40,10 @@ module _ (a : ℕ) (s : List ℕ) (known : is_age a ≡ true) (small : length s 
   ended : (c : Cursor) → Gives a s c [] c
   unfolding calls_of cursor_of
   ended c = record {
-    calls = λ olds. elim olds [ [] ↦ λ r e. refl | old ∷ olds ↦ λ r e. absurd (omega arith) ];
-    leads = λ olds. elim olds [ [] ↦ λ r e. refl | old ∷ olds ↦ λ r e. absurd (omega arith) ];
+    calls = λ olds. elim olds as (λ os. Roomy os → length os ≡ 0 → calls_of a s c os ≡ each_wrote [] os) [
+        [] ↦ λ r e. refl | old ∷ olds ↦ λ r e. absurd (omega arith) ];
+    leads = λ olds. elim olds as (λ os. Roomy os → length os ≡ 0 → cursor_of a s c os ≡ c) [
+        [] ↦ λ r e. refl | old ∷ olds ↦ λ r e. absurd (omega arith) ];
   }
 
   -- a line, and those behind it
@@ -49,11 +51,11 @@ module _ (a : ℕ) (s : List ℕ) (known : is_age a ≡ true) (small : length s 
       → Gives a s next ws d → Gives a s c (w ∷ ws) d
   unfolding calls_of cursor_of
   then c w ws next d line goes l g = record {
-    calls = λ olds. elim olds [
+    calls = λ olds. elim olds as (λ os. Roomy os → length os ≡ length (w ∷ ws) → calls_of a s c os ≡ each_wrote (w ∷ ws) os) [
       | [] ↦ λ r e. absurd (omega arith)
       | old ∷ olds ↦ λ r e. rw (step old r.0, g.calls olds r.1 (omega arith))
     ];
-    leads = λ olds. elim olds [
+    leads = λ olds. elim olds as (λ os. Roomy os → length os ≡ length (w ∷ ws) → cursor_of a s c os ≡ d) [
       | [] ↦ λ r e. absurd (omega arith)
       | old ∷ olds ↦ λ r e. rw (step old r.0) (g.leads olds r.1 (omega arith))
     ];

@@ -1,3 +1,4 @@
+#![tactic(auto)]
 // The lines of a listing, one at a time in a lent buffer. Each call looks only at the record at its cursor.
 ghost use Rattle.std.specs.Prelude.{◌≡◌, true, cond, ◌≤◌, eqb, length};
 ghost use Rattle.answers.specs.Tells.{written_tells};
@@ -16,7 +17,7 @@ use runs::{Front, Stop, front_at};
 pub const MOST_BYTES: usize = 65536;
 
 // Where a listing goes on.
-#[derive(Drop)]
+#[derive(Clone, Copy)]
 pub enum Cursor {
     // At the line with the age.
     Start,
@@ -27,7 +28,7 @@ pub enum Cursor {
 }
 
 // The answer of a call for a line, and the cursor with which the listing goes on.
-#[derive(Drop)]
+#[derive(Clone, Copy)]
 pub struct Lined {
     pub answer: Written,
     pub cursor: Cursor,

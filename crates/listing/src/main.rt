@@ -1,3 +1,4 @@
+#![tactic(auto)]
 // Prints the listing of standard input, read as a run at the age that is its argument, or at the default age where it has none. Where the
 // argument is no age, or a read fails, it says so on standard error and prints nothing.
 ghost use Rattle.io.specs.Counts.{IsPrefixLen};
@@ -34,7 +35,7 @@ fn say_no_age() {
 }
 
 // How many bytes were read, and whether a read failed.
-#[derive(Drop)]
+#[derive(Clone, Copy)]
 struct Filled {
     count: usize,
     failed: bool,

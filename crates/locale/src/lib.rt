@@ -1,3 +1,4 @@
+#![tactic(auto)]
 // The words of a record's locale, in the legacy and in the new format.
 ghost use Rattle.std.specs.Prelude.{false, ◌++◌, ◌≡◌, ◌%◌, ◌/◌, ◌≤◌, length};
 ghost use Rattle.buffer.specs.Ascii.{ascii};

@@ -1,3 +1,4 @@
+#![tactic(auto)]
 // A mark, and fourteen of them in one word: two bits each, imsi's lowest (02, K8). The word is what is kept; letters are made of it.
 ghost use Rattle.std.specs.Prelude.{◌≡◌};
 ghost use Rattle.buffer.specs.Put.{Put};
@@ -8,7 +9,7 @@ use answers::{Refusal, Written};
 use buffer::put_byte;
 
 // What a reader of an age can say of a field.
-#[derive(Drop)]
+#[derive(Clone, Copy)]
 pub enum Mark {
     // The record doesn't hold it.
     Absent,

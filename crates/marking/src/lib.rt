@@ -1,3 +1,4 @@
+#![tactic(auto)]
 // The marks of a record's fields, and whether a reader of an age holds the record back.
 ghost use Rattle.std.specs.Prelude.{◌≡◌};
 ghost use Rattle.buffer.specs.Put.{Put};
@@ -10,7 +11,7 @@ use reading::{lesser, take};
 use record::{Age, ENDS};
 
 // The answer of a call that gives a record's fourteen marks in one word.
-#[derive(Drop)]
+#[derive(Clone, Copy)]
 pub enum Marked {
     Word(u32),
     Refused(Refusal),
@@ -29,7 +30,7 @@ impl Marked {
 }
 
 // The answer whether a record is held back.
-#[derive(Drop)]
+#[derive(Clone, Copy)]
 pub enum Held {
     No,
     Yes,

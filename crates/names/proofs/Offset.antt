@@ -137,7 +137,7 @@ begun_left b [] rs w ws h e a = refl
 begun_left b (q ∷ qs) rs w ws h e a =
     let z : q ≡ b ∷ w = ap (λ (l : List (List ℕ)). get_or l 0 []) e in
     let p = plain_left (q ∷ qs) rs a in
-    rw z (begun b w qs h (rw z at p))
+    subst (λ (x : List ℕ). read_name (with_dashes (x ∷ qs)) ≡ read_parts start 0 (x ∷ qs)) (sym z) (begun b w qs h (rw z at p))
 
 one_more : (ps : List (List ℕ)) (p : List ℕ) (qs : List (List ℕ)) → (ps ++ (p ∷ [])) ++ qs ≡ ps ++ (p ∷ qs)
 one_more [] p qs = refl

@@ -12,13 +12,13 @@ stopped_at (Read.so_far next vs) = record { holds = false; why = Refusal.NotANam
 stopped_at (Read.refused at) = record { holds = true; why = Refusal.NotAName at }
 
 -- 11: the grammar doesn't have the name, which Claims.antt says of every offset
-abbrev pub not_aName : List ℕ → Condition
-not_aName s = stopped_at (read_name s)
+abbrev pub not_a_name : List ℕ → Condition
+not_a_name s = stopped_at (read_name s)
 
 -- `read_name`: 11
 abbrev pub NameRefuses : List ℕ → Type 0
-NameRefuses s = Exactly (not_aName s ∷ []) (name_of s).tells
+NameRefuses s = Exactly (not_a_name s ∷ []) (name_of s).tells
 
 -- `write_name`: 11, 5
 abbrev pub NameWriteRefuses : List ℕ → List ℕ → Type 0
-NameWriteRefuses s old = Refuses (not_aName s ∷ shorter_than 64 old ∷ []) old (name_written s old)
+NameWriteRefuses s old = Refuses (not_a_name s ∷ shorter_than 64 old ∷ []) old (name_written s old)

@@ -1,3 +1,4 @@
+#![tactic(auto)]
 // Directory names: reading one into the record for which it stands, and writing that record's bytes.
 mod made;
 

@@ -1,3 +1,4 @@
+#![tactic(auto)]
 // Numbers of 16 bits, read from decimal digits.
 ghost use Rattle.std.specs.Prelude.{◌≡◌, ◌≤◌};
 ghost use Rattle.numbers.specs.Numbers.{further, leading_zero, number_in};

@@ -1,3 +1,4 @@
+#![tactic(auto)]
 // The order of two records and their equality: each answers at the first field that differs.
 ghost use Rattle.std.specs.Prelude.{◌≡◌, ◌*◌, ◌+◌, ◌<◌};
 ghost use Rattle.record.specs.Table.{bit};
@@ -7,7 +8,7 @@ ghost use Rattle.order.specs.Packed.{Packed};
 use record::ResTableConfig;
 
 // How a first record stands to a second.
-#[derive(Drop)]
+#[derive(Clone, Copy)]
 pub enum Ordering {
     Less,
     Equal,

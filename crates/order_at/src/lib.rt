@@ -1,3 +1,4 @@
+#![tactic(auto)]
 // The order of two records of a run, which stand at offsets of the same bytes. Only as much is read as decides it.
 ghost use Rattle.std.specs.Prelude.{◌≡◌, ◌*◌, ◌+◌, ◌-◌, ◌<◌, ◌≤◌, drop, length};
 ghost use Rattle.order_at.specs.Apart.{FirstApart, Limit, nth_word};

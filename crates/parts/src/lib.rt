@@ -1,3 +1,4 @@
+#![tactic(auto)]
 // What some bytes are as a part of a directory name: a value in a slot.
 mod a_to_m;
 mod digits;
@@ -15,7 +16,7 @@ use n_to_x::{part_n, part_p, part_q, part_r, part_s, part_t, part_v, part_w, par
 use slots::LANGUAGE;
 
 // A value in a slot; the value is 0 where bytes are no part.
-#[derive(Drop)]
+#[derive(Clone, Copy)]
 pub struct Found {
     pub slot: usize,
     pub value: u32,

@@ -1,3 +1,4 @@
+#![tactic(auto)]
 // What the places of a text share: the dash before a place, and a kind's words behind it. Both are machinery: they stop at the buffer's
 // end and refuse nothing.
 ghost use Rattle.std.specs.Prelude.{◌++◌};

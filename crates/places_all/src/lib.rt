@@ -1,3 +1,4 @@
+#![tactic(auto)]
 // The last eleven places of a record, a few to a function, and all twenty-four. A word of the record that is 0 says none of its
 // places, so that some are tested by their word first.
 //

@@ -1,3 +1,4 @@
+#![tactic(auto)]
 // The first thirteen places of a record, put one after the other, a few to a function. A word of the record that is 0 says none of
 // its places, so that some are tested by their word first.
 //

@@ -1,10 +1,2 @@
-pub mod ByHand
-pub mod ReaderLaws
-pub mod ReaderCalls
-pub mod MakingWalks
-pub mod ReadingWalks
-pub mod SeekingWalk
-pub mod Keeps
-pub mod TheReader
 pub mod OneOutcome
 pub mod Stops

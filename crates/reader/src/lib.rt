@@ -1,3 +1,4 @@
+#![tactic(auto)]
 // The run reader: a struct that holds the lent bytes, its offset and its age, over the covered step of runs.
 ghost use Rattle.std.specs.Prelude.{◌≡◌};
 ghost use Rattle.runs.specs.Runs.{step_of, step_outcome};

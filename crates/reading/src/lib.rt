@@ -1,3 +1,4 @@
+#![tactic(auto)]
 // Parsing: the record at the front of some bytes, plain or as a reader of an age reads it.
 mod fields;
 
@@ -11,7 +12,7 @@ use answers::{Refusal, Taken};
 use record::{Age, ResTableConfig, blank, field_end};
 
 // The answer of parsing, beside the record, which holds nothing where the answer is a refusal.
-#[derive(Drop)]
+#[derive(Clone, Copy)]
 pub struct Parsed {
     pub answer: Taken,
     pub record: ResTableConfig,

@@ -20,6 +20,7 @@ among_member n [] e = absurd (false≢true e)
 among_member n (a ∷ l) e = by_first n a l (eqb n a) refl (among_member n l) e
 
 member_among : (n : ℕ) (l : List ℕ) → Memᴰ n l → among n l ≡ true
+member_among n [] m = elim m [ ]
 member_among n (a ∷ l) (Memᴰ.head e) = rw (eq-eqb n a e)
 member_among n (a ∷ l) (Memᴰ.tail m) = or_right (eqb n a) (member_among n l m)
 
@@ -51,6 +52,7 @@ holds_of f [] = true
 holds_of f (a ∷ l) = f a && holds_of f l
 
 held : (f : ℕ → Bool) (n : ℕ) (l : List ℕ) → holds_of f l ≡ true → Memᴰ n l → f n ≡ true
+held f n [] h m = elim m [ ]
 held f n (a ∷ l) h (Memᴰ.head e) = rw e (and_both {a = f a} h).0
 held f n (a ∷ l) h (Memᴰ.tail m) = held f n l (and_both {a = f a} h).1 m
 

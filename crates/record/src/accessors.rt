@@ -8,14 +8,14 @@ use crate::ResTableConfig;
 use kinds::Density;
 
 // What `imsi` holds.
-#[derive(Drop)]
+#[derive(Clone, Copy)]
 pub struct MccMnc {
     pub mcc: u16,
     pub mnc: u16,
 }
 
 // What `screen_type` holds.
-#[derive(Drop)]
+#[derive(Clone, Copy)]
 pub struct OrientationTouchscreenDensity {
     pub orientation: u8,
     pub touchscreen: u8,
@@ -23,7 +23,7 @@ pub struct OrientationTouchscreenDensity {
 }
 
 // What the three lower bytes of `generic_purpose_field` hold.
-#[derive(Drop)]
+#[derive(Clone, Copy)]
 pub struct KeyboardNavigationInputFlags {
     pub keyboard: u8,
     pub navigation: u8,
@@ -31,21 +31,21 @@ pub struct KeyboardNavigationInputFlags {
 }
 
 // What `screen_size` holds.
-#[derive(Drop)]
+#[derive(Clone, Copy)]
 pub struct ScreenWidthHeight {
     pub screen_width: u16,
     pub screen_height: u16,
 }
 
 // What `version` holds.
-#[derive(Drop)]
+#[derive(Clone, Copy)]
 pub struct SdkMinorVersion {
     pub sdk_version: u16,
     pub minor_version: u16,
 }
 
 // What `screen_config` holds.
-#[derive(Drop)]
+#[derive(Clone, Copy)]
 pub struct ScreenLayoutUiSmallestWidth {
     pub screen_layout: u8,
     pub ui_mode: u8,
@@ -53,14 +53,14 @@ pub struct ScreenLayoutUiSmallestWidth {
 }
 
 // What `screen_size_dp` holds.
-#[derive(Drop)]
+#[derive(Clone, Copy)]
 pub struct ScreenWidthHeightDp {
     pub screen_width_dp: u16,
     pub screen_height_dp: u16,
 }
 
 // What the two lower bytes of `screen_config_2` hold.
-#[derive(Drop)]
+#[derive(Clone, Copy)]
 pub struct ScreenLayout2ColorMode {
     pub screen_layout_2: u8,
     pub color_mode: u8,

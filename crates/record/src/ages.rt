@@ -5,7 +5,7 @@ ghost use Rattle.record.specs.Ages.{ages, is_age};
 use crate::ENDS;
 
 // An age: one of the twelve constants, or a number that is refused.
-#[derive(Drop)]
+#[derive(Clone, Copy)]
 pub struct Age(pub u32);
 
 impl Age {

@@ -1,3 +1,4 @@
+#![tactic(auto)]
 // The record, its field table, and the ages of its readers.
 mod accessors;
 mod ages;
@@ -13,7 +14,7 @@ pub use accessors::{
 pub use ages::Age;
 
 // A resource configuration, with 000's fields in the table's order.
-#[derive(Drop)]
+#[derive(Clone, Copy)]
 pub struct ResTableConfig {
     pub size: u32,
     pub imsi: u32,

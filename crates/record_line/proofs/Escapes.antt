@@ -2,7 +2,7 @@
 use Prim.Native.Nat.{ℕ, suc, ◌+◌, ◌-◌, ◌*◌, ◌/◌, ◌%◌, ◌≤◌, ◌<◌}
 use mathlib.Core.Path.{◌≡◌, refl, sym}
 use mathlib.Core.Bool.{true, false, not}
-use mathlib.Core.List.{List, [], ◌∷◌, ◌++◌, append_assoc, append_nil}
+use mathlib.Core.List.{List, [], ◌∷◌, ◌++◌, append_assoc, append-nil}
 use native.Mathlib.Omega.{arith}
 use native.Mathlib.Decide.{dec_le}
 use lib.Dec.{eqb, leb}
@@ -47,7 +47,7 @@ escaped_append (b ∷ u) v = rw (escaped_append u v) (sym (append_assoc (escaped
 pub escaped_turn : {o : List ℕ} {at : ℕ} (w : List ℕ) {m : List ℕ} {a : ℕ} {n : List ℕ} {r : ℕ} (j : ℕ)
     → j < length w → Put o at (escaped_all (take j w)) m a → Put m a (escaped (get_or w j 0)) n r → Put o at (escaped_all (take (suc j) w)) n r
 unfolding escaped_all
-escaped_turn w j h p q = rw (take-suc w j 0 h, escaped_append (take j w) (get_or w j 0 ∷ []), append_nil) (put_put p q)
+escaped_turn w j h p q = rw (take-suc w j 0 h, escaped_append (take j w) (get_or w j 0 ∷ []), append-nil) (put_put p q)
 
 -- and all of them
 pub escaped_all_lem : {o : List ℕ} {at : ℕ} (w : List ℕ) {n : List ℕ} {r : ℕ} (j : ℕ)
@@ -59,7 +59,7 @@ pub turn_length : (w : List ℕ) (j : ℕ) → j < length w
     → length (escaped_all (take (suc j) w)) ≡ length (escaped_all (take j w)) + length (escaped (get_or w j 0))
 unfolding escaped_all
 turn_length w j h =
-    rw (take-suc w j 0 h, escaped_append (take j w) (get_or w j 0 ∷ []), append_nil) (length-append (escaped_all (take j w)) (escaped (get_or w j 0)))
+    rw (take-suc w j 0 h, escaped_append (take j w) (get_or w j 0 ∷ []), append-nil) (length-append (escaped_all (take j w)) (escaped (get_or w j 0)))
 
 -- a byte is shown in three at the most, and in one at the least
 pub byte_long : (b : ℕ) → length (escaped b) ≤ 3

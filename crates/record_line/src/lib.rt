@@ -1,3 +1,4 @@
+#![tactic(auto)]
 // A record as a line of the listing shows it.
 mod escaping;
 
@@ -39,7 +40,7 @@ fn put_numbers(index: usize, offset: usize, size: u32, out: &mut [u8]) -> usize
 }
 
 // What a line shows of a record beside its marks and its text, whether that text is held back, and how many replacements it has.
-#[derive(Drop)]
+#[derive(Clone, Copy)]
 struct Row {
     index: usize,
     offset: usize,

@@ -1,3 +1,4 @@
+#![tactic(auto)]
 // The C face: fifteen calls on numbers and byte slices, for the intake tool: seven on records, one on the marks in one word, two on the index
 // of a run, one on directory names, four on type chunks. A slice arrives as a pointer and then a length.
 //

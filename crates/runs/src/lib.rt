@@ -1,3 +1,4 @@
+#![tactic(auto)]
 // Runs of records, end to end: what stands at an offset, a step there, and the walk to where a run stops.
 ghost use Rattle.std.specs.Prelude.{◌≡◌};
 ghost use Rattle.runs.specs.Fronts.{front_of, step_tells, stop_tells};
@@ -8,7 +9,7 @@ use reading::{lesser, read_to, take};
 use record::{Age, ResTableConfig, blank};
 
 // Why a run stops.
-#[derive(Drop)]
+#[derive(Clone, Copy)]
 pub enum Stop {
     // At the exact end of the bytes.
     Ended,
@@ -17,7 +18,7 @@ pub enum Stop {
 }
 
 // What stands at an offset of a run.
-#[derive(Drop)]
+#[derive(Clone, Copy)]
 pub enum Front {
     // Something whole that takes so many bytes.
     Takes(usize),
@@ -26,7 +27,7 @@ pub enum Front {
 }
 
 // The answer of a step.
-#[derive(Drop)]
+#[derive(Clone, Copy)]
 pub enum Step {
     // A record stands at the offset.
     Found,
@@ -35,7 +36,7 @@ pub enum Step {
 }
 
 // The answer of a step, the offset where the next one goes on, and the record, which holds nothing where none was found.
-#[derive(Drop)]
+#[derive(Clone, Copy)]
 pub struct Stepped {
     pub answer: Step,
     pub next: usize,
@@ -43,7 +44,7 @@ pub struct Stepped {
 }
 
 // How many records a run has, where it stops, and why.
-#[derive(Drop)]
+#[derive(Clone, Copy)]
 pub struct RunEnd {
     pub records: usize,
     pub offset: usize,

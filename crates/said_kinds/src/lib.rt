@@ -1,3 +1,4 @@
+#![tactic(auto)]
 // Which cases of a kind are said.
 ghost use Rattle.std.specs.Prelude.{◌≡◌};
 ghost use Rattle.said_kinds.specs.Said.{grammatical_gender_said, layout_dir_said, screen_size_said, screen_long_said, screen_round_said, wide_color_gamut_said, hdr_said, orientation_said, ui_mode_said, ui_mode_night_said, density_said, touchscreen_said, keys_hidden_said, keyboard_said, nav_hidden_said, navigation_said, kind_said};

@@ -1,3 +1,4 @@
+#![tactic(auto)]
 // The sheet of a record: its sixteen kinds, its plain numbers and which places it says.
 mod said;
 
@@ -13,14 +14,14 @@ use record::ResTableConfig;
 use said::said;
 
 // A network code: silent, or a code, which may be 0.
-#[derive(Drop)]
+#[derive(Clone, Copy)]
 pub enum NetworkCode {
     Silent,
     Code(u16),
 }
 
 // What a record holds, taken apart; bit k of said is 1 where place k is said.
-#[derive(Drop)]
+#[derive(Clone, Copy)]
 pub struct Sheet {
     pub mcc: u16,
     pub network_code: NetworkCode,

@@ -1,3 +1,4 @@
+#![tactic(auto)]
 // What is shown of the record at an offset of a run: its text and its marks. Apart from runs, which call no text, so that each is checked in
 // less time.
 ghost use Rattle.std.specs.Prelude.{◌≡◌, drop};

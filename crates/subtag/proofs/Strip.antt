@@ -2,7 +2,7 @@
 use Prim.Native.Nat.{ℕ, zero, suc, ◌≤◌, ◌<◌}
 use mathlib.Core.Path.{◌≡◌, refl, sym, ap, ◌∙◌}
 use mathlib.Core.Logic.{◌⊎◌, inl, inr}
-use mathlib.Core.List.{List, [], ◌∷◌, ◌++◌, append_nil}
+use mathlib.Core.List.{List, [], ◌∷◌, ◌++◌, append-nil}
 use native.Mathlib.Omega.{arith}
 use native.Mathlib.Decide.{dec_lt, ℕ_discrete}
 use lib.ListN.{length, drop, length-drop}
@@ -73,7 +73,7 @@ ends_stay =
     rw (replaced_more s p)
     (elim (dec_lt n (length s)) [
       | yes m ↦ ends_append (piece_of (front_of s) s) (replaced (drop n s)) (behind (rw (last_drop 0 0 n s m) e))
-      | no m ↦ rw (replaced_none (drop n s) (omega (arith, length-drop n s)), append_nil) (ends_piece (front_of s) s (omega arith) e)
+      | no m ↦ rw (replaced_none (drop n s) (omega (arith, length-drop n s)), append-nil) (ends_piece (front_of s) s (omega arith) e)
     ])) where
       empty : (s : List ℕ) → length s ≡ 0 → Ends s → Ends (replaced s)
       empty [] h e = absurd (e refl)

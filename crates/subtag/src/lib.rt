@@ -1,3 +1,4 @@
+#![tactic(auto)]
 // Subtags: bytes that should be UTF-8, copied with their ill-formed parts replaced and trailing NULs dropped. The copy counts what it
 // replaces.
 mod utf8;
@@ -16,14 +17,14 @@ use buffer::{put, put_byte};
 use utf8::{Front, first};
 
 // Where a copier stopped, and how many maximal ill-formed subparts its source has: it replaced each that it had room for.
-#[derive(Drop)]
+#[derive(Clone, Copy)]
 pub struct Copied {
     pub at: usize,
     pub replacements: usize,
 }
 
 // A writer's next offset, how many bytes of its source it has taken, and how many maximal subparts it has replaced.
-#[derive(Drop)]
+#[derive(Clone, Copy)]
 struct Moved {
     at: usize,
     taken: usize,
@@ -31,7 +32,7 @@ struct Moved {
 }
 
 // How many bytes a front becomes, and how many it has.
-#[derive(Drop)]
+#[derive(Clone, Copy)]
 struct Sizes {
     becomes: usize,
     taken: usize,

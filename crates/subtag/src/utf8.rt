@@ -4,7 +4,7 @@ ghost use Rattle.std.proofs.Math.Option.{some};
 ghost use Rattle.subtag.specs.Utf8.{ok_at, judge, front_of};
 
 // A well-formed sequence or the maximal subpart of one that is not, with how many bytes it has.
-#[derive(Drop)]
+#[derive(Clone, Copy)]
 pub enum Front {
     WellFormed(usize),
     IllFormed(usize),

@@ -1,3 +1,4 @@
+#![tactic(auto)]
 // What the programs that replay questions are told and say, as bytes: little-endian numbers, and an answer's line.
 mod hex;
 mod numbers;

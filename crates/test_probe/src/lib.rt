@@ -1,3 +1,4 @@
+#![tactic(auto)]
 // What the benchmark and the comparison at scale call of the port beyond the C face, each from bytes and answering one number.
 ghost use Rattle.std.specs.Prelude.{◌≡◌};
 ghost use Rattle.buffer.specs.Written.{outcome};

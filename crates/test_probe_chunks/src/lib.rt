@@ -1,3 +1,4 @@
+#![tactic(auto)]
 // What the comparison at scale calls of runs of chunks, for which the C face has no call: each from bytes, and answering one number.
 ghost use Rattle.std.specs.Prelude.{◌≡◌};
 ghost use Rattle.answers.specs.Tells.{packed_of};

@@ -1,3 +1,4 @@
+#![tactic(auto)]
 // Answers the questions of tests/ on the flags, the kinds and the sheet for the port: reads framed questions (tag, length in
 // four bytes, payload) from standard input, and writes each answer to standard output as a line of lowercase hexadecimal
 // digits. The Rust of 000 answers the same questions beside it.

@@ -2,7 +2,7 @@
 use Prim.Native.Nat.{ℕ}
 use mathlib.Core.Path.{◌≡◌, refl, sym, ap, ◌∙◌}
 use mathlib.Core.Bool.{Bool, true, false, ◌||◌, true≢false}
-use mathlib.Core.List.{List, [], ◌∷◌, ◌++◌, append_assoc, append_nil}
+use mathlib.Core.List.{List, [], ◌∷◌, ◌++◌, append_assoc, append-nil}
 use mathlib.Core.Logic.{◌⊎◌, inl, inr}
 use native.Mathlib.Omega.{arith}
 use lib.ListN.{take, drop}
@@ -31,7 +31,7 @@ holds_left : (u v : List ℕ) → Holds (u ++ v) u
 holds_left u v = record { front = []; back = v; is = refl }
 
 holds_right : (u v : List ℕ) → Holds (u ++ v) v
-holds_right u v = record { front = u; back = []; is = sym (append_nil (u ++ v)) }
+holds_right u v = record { front = u; back = []; is = sym (append-nil (u ++ v)) }
 
 -- words hold the text of each of some subtags
 abbrev Covers : List ℕ → List (List ℕ) → Type 0
@@ -57,7 +57,8 @@ covers_sign : (sign : List ℕ) {w : List ℕ} {l : List (List ℕ)} → Covers 
 covers_sign sign {w} p s i = holds_in (holds_right sign w) (p s i)
 
 covers_one : (s : List ℕ) → Covers (subtag_of s) (s ∷ [])
-covers_one s t here = record { front = []; back = []; is = sym (append_nil (subtag_of s)) }
+covers_one s t here = record { front = []; back = []; is = sym (append-nil (subtag_of s)) }
+covers_one s t (there i) = elim i [ ]
 
 -- there is none of none
 one_none : {A : Type 0} (s : List ℕ) → OneOf s [] → A
@@ -69,7 +70,7 @@ covers_part false sign s = λ t i. one_none t i
 
 -- a part that isn't there adds nothing
 covers_none : {w : List ℕ} {l : List (List ℕ)} (test : Bool) (s : List ℕ) → test ≡ false → Covers w l → Covers w (l ++ where_there test s)
-covers_none test s e p = rw (e, append_nil) p
+covers_none test s e p = rw (e, append-nil) p
 
 module _ (r : ResTableConfig) where
   covers_new : Covers (new_words r) (locale_subtags r)
@@ -99,11 +100,11 @@ module _ (r : ResTableConfig) where
 say_keeps : (t : List ℕ) (said : Bool) (w : List ℕ) → Holds (say t said w) t
 unfolding say
 say_keeps t true w = holds_in (holds_left (t ++ dash_after t) w) (holds_left t (dash_after t))
-say_keeps t false w = record { front = []; back = []; is = sym (append_nil t) }
+say_keeps t false w = record { front = []; back = []; is = sym (append-nil t) }
 
 all_keeps : (t : List ℕ) (ps : List Place) → Holds (say_all t ps) t
 unfolding say_all
-all_keeps t [] = record { front = []; back = []; is = sym (append_nil t) }
+all_keeps t [] = record { front = []; back = []; is = sym (append-nil t) }
 all_keeps t (p ∷ ps) = holds_in (all_keeps (say t p.0 p.1) ps) (say_keeps t p.0 p.1)
 
 -- what is said stands in the text
@@ -127,6 +128,7 @@ module _ (r : ResTableConfig) where
 
   -- each of some subtags has no replacement where all have none
   none_each : (l : List (List ℕ)) → replacements_in l ≡ 0 → (s : List ℕ) → OneOf s l → replacements s ≡ 0
+  none_each [] e t i = elim i [ ]
   none_each (s ∷ l) e t here = omega arith
   none_each (s ∷ l) e t (there i) = none_each l (omega arith) t i
 

@@ -1,3 +1,4 @@
+#![tactic(auto)]
 // The text of a record: of a parsed one, of bytes, and of bytes for a reader of some age.
 ghost use Rattle.std.specs.Prelude.{◌≡◌, ◌≤◌, leb, length};
 ghost use Rattle.answers.specs.Counted.{counted_with};
@@ -20,7 +21,7 @@ use text_length::text_length;
 pub const LONGEST_TEXT: usize = 344;
 
 // The answer how many replacements a text has.
-#[derive(Drop)]
+#[derive(Clone, Copy)]
 pub enum Replaced {
     Count(usize),
     Refused(Refusal),

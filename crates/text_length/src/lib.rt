@@ -1,3 +1,4 @@
+#![tactic(auto)]
 // How long the text of a record is, learnt by a pass that writes nothing.
 //
 // A place adds a dash and its words where it is said, but the first that is said has no dash. A word of the record that is 0 says

@@ -1,3 +1,4 @@
+#![tactic(auto)]
 // The words of the sixteen kinds, as 000 displays them.
 ghost use Rattle.buffer.specs.Put.{Put};
 ghost use Rattle.words.specs.Words.{words_of};

@@ -1,3 +1,4 @@
+#![tactic(auto)]
 // The words of the kinds that speak of touch, keys and navigation.
 //
 // They are machinery: each stops at the buffer's end and refuses nothing.

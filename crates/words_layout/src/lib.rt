@@ -1,3 +1,4 @@
+#![tactic(auto)]
 // The words of the kinds that speak of how a screen is laid out.
 //
 // They are machinery: each stops at the buffer's end and refuses nothing.

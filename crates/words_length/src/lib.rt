@@ -1,3 +1,4 @@
+#![tactic(auto)]
 // How long the words of a kind are, and a call that writes them.
 mod lengths;
 

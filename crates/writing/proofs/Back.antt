@@ -3,7 +3,7 @@
 use Prim.Native.Nat.{ℕ, ◌+◌, ◌-◌, ◌≤◌, ◌<◌}
 use mathlib.Core.Path.{◌≡◌, refl, sym, ap, ◌∙◌}
 use mathlib.Core.Bool.{Bool, true, false, not}
-use mathlib.Core.List.{List, [], ◌∷◌, ◌++◌, append_nil}
+use mathlib.Core.List.{List, [], ◌∷◌, ◌++◌, append-nil}
 use native.Mathlib.Omega.{arith}
 use lib.Dec.{lit<}
 use lib.ListN.{length, get_or, take, drop, replicate, length-append, get_or-append}
@@ -103,7 +103,7 @@ module _ (r : ResTableConfig) (w : Shaped r) (more : List ℕ) where
 
 -- the T bytes of a record that the writer takes are read as the same record
 pub back : (r : ResTableConfig) → Shaped r → tidy r ≡ true → parse_of (bytes_written r) ≡ parse_took (span r) r
-back r w fine = rw append_nil at (back_behind r w [] fine)
+back r w fine = rw append-nil at (back_behind r w [] fine)
 
 -- a record that is written reads back as itself: from the lent buffer, and from its first T bytes
 pub written_back : ReadsBack

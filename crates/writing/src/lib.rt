@@ -1,3 +1,4 @@
+#![tactic(auto)]
 // Writing: the bytes of a record, to the front of a lent buffer.
 ghost use Rattle.std.specs.Prelude.{◌≡◌, ◌++◌, ◌∷◌, [], ◌+◌, ◌<◌, ◌≤◌, drop, get_or, length, replicate, take};
 ghost use Rattle.std.proofs.Math.Seq.{paste};

@@ -1,0 +1,6 @@
+-- `put_between` puts its words in a row. Assumes nothing.
+use Rattle.buffer.proofs.Putting.{put_put}
+use Rattle.buffer.proofs.put_between.Goals as goal
+
+pub returns : goal.returns
+returns c = search put_put

@@ -1,0 +1,10 @@
+-- The subtag is put where it fits, else the call is refused. Assumes nothing.
+use borrow.Author.Rules.{rules}
+use Rattle.subtag.proofs.Copying.{copy_short, copy_written}
+use Rattle.language.proofs.write_unpacked.Goals as goal
+
+pub returns-then-out-unpacked_length : goal.returns-then-out-unpacked_length
+returns-then-out-unpacked_length c = copy_short _ _ _ (rw c.unpacked_length.ensures at c.if-out-unpacked_length.true)
+
+pub returns : goal.returns
+returns c = copy_written (rw c.unpacked_length.ensures at c.if-out-unpacked_length.false) c.put_unpacked-copied.ensures

@@ -1,0 +1,24 @@
+-- The word has the marks behind field f, and takes that of field f next. Assumes nothing.
+use Prim.Native.Nat.{◌≤◌}
+use mathlib.Core.Path.{◌≡◌, refl, ap, ◌∙◌}
+use native.Mathlib.Omega.{arith}
+use lib.ListN.{drop}
+use Rattle.mark.specs.Word.{bits_of, in_one_word}
+use Rattle.mark.proofs.Words.{bits_below}
+use Rattle.marking.specs.Marks.{word_in}
+use Rattle.marking.proofs.Marking.{marks_from, mark_there, field_room, field_turn}
+use Rattle.marking.proofs.word_in.Goals as goal
+
+pub overflow_mul-word : goal.overflow_mul-word
+overflow_mul-word c = let room = field_room c.args.age c.args.t c.args.bytes.now c.loop-f.f c.loop-f.word (omega arith) (omega arith) c.loop-f.invariant.1 in
+    omega arith
+
+pub overflow_add-word : goal.overflow_add-word
+overflow_add-word c = let room = field_room c.args.age c.args.t c.args.bytes.now c.loop-f.f c.loop-f.word (omega arith) (omega arith) c.loop-f.invariant.1 in
+    let bits = bits_below c.mark_of-mark.result in
+    omega (arith, c.bits.ensures)
+
+pub returns : goal.returns
+unfolding word_in
+returns c = let none : c.loop-f.f ≡ 0 = omega arith in
+    c.loop-f.invariant.1 ∙ ap (λ n. in_one_word (drop n (marks_from c.args.age c.args.t c.args.bytes.now))) none

@@ -1,0 +1,16 @@
+-- The word has the marks behind field f, and takes that of field f next. Assumes nothing.
+use Prim.Native.Nat.{◌≤◌}
+use mathlib.Core.Path.{◌≡◌, refl, ap, ◌∙◌}
+use native.Mathlib.Omega.{arith}
+use lib.ListN.{drop}
+use Rattle.mark.specs.Word.{bits_of, in_one_word}
+use Rattle.mark.proofs.Words.{bits_below}
+use Rattle.marking.specs.Marks.{word_in}
+use Rattle.marking.proofs.Marking.{marks_from, mark_there, field_room, field_turn}
+use Rattle.marking.proofs.word_in.Given as goal
+
+abbrev pub invariant-loop-f : goal.invariant-loop-f
+invariant-loop-f l = (l.f ≤ 14) × (l.word ≡ in_one_word (drop l.f (marks_from l.age l.t l.bytes)))
+
+abbrev pub decreases-loop-f : goal.decreases-loop-f
+decreases-loop-f l = l.f

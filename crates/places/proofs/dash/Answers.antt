@@ -1,0 +1,8 @@
+-- The dash stands behind something. Assumes nothing.
+use borrow.Author.Tests.{lt-ltb, le-ltb}
+use Rattle.buffer.proofs.Putting.{put_nil}
+use borrow.Author.Rules.{rules}
+use Rattle.places.proofs.dash.Goals as goal
+
+pub returns-else-at-gt0 : goal.returns-else-at-gt0
+returns-else-at-gt0 c = rw (le-ltb 0 _ c.if-at-gt0.false) put_nil

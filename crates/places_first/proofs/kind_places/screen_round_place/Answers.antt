@@ -1,0 +1,12 @@
+-- A kind is put where it is said. Assumes nothing.
+use mathlib.Core.Path.{sym, ◌∙◌}
+use Rattle.places.proofs.Laws.{dashed_said, place_silent}
+use borrow.Author.Rules.{rules}
+use Rattle.places_first.proofs.kind_places.screen_round_place.Goals as goal
+
+pub returns-then-screen_round_said : goal.returns-then-screen_round_said
+returns-then-screen_round_said c = rw (← c.from-kind.ensures)
+    (dashed_said (sym c.screen_round_said.ensures ∙ c.if-screen_round_said.true) c.say_kind.ensures)
+
+pub returns-else-screen_round_said : goal.returns-else-screen_round_said
+returns-else-screen_round_said c = rw (← c.from-kind.ensures) (place_silent _ (sym c.screen_round_said.ensures ∙ c.if-screen_round_said.false))

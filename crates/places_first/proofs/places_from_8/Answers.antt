@@ -1,0 +1,14 @@
+-- A word that is 0 says nothing; else the places in a row. Assumes nothing.
+use Rattle.places.proofs.Laws.{says_more}
+use Rattle.places.specs.Say.{say, say_all}
+use Rattle.places.specs.Places.{places_of}
+use Rattle.places_first.proofs.Silent.{says_none}
+use Rattle.places_first.proofs.places_from_8.Goals as goal
+
+pub returns-then-r-eq0 : goal.returns-then-r-eq0
+unfolding places_of say_all say
+returns-then-r-eq0 c = says_none _ (λ t. rw c.if-r-eq0.true)
+
+pub returns : goal.returns
+unfolding places_of
+returns c = says_more (rw c.get_screen_layout_ui_smallest_width-layout.ensures at c.screen_size_place-a.ensures) (rw c.get_screen_layout_ui_smallest_width-layout.ensures at c.screen_long_place.ensures)

@@ -1,0 +1,24 @@
+-- `trim` stops at the last byte that is no NUL. Assumes nothing.
+use Rattle.subtag.proofs.Nuls.{one_less, stays, ended}
+use Rattle.subtag.specs.Subtag.{drop_nuls}
+use lib.Seq.{take-length}
+use lib.ListN.{length, take}
+use mathlib.Core.Path.{◌≡◌, sym, ap, ◌∙◌}
+use borrow.Author.Rules.{rules}
+use native.Mathlib.Omega.{arith}
+use Prim.Native.Nat.{◌≤◌, ◌-◌}
+use Rattle.subtag.proofs.trim.Reads as reads
+use Rattle.subtag.proofs.trim.Lts as lts
+use Rattle.subtag.proofs.trim.Goals as goal
+
+-- src/lib.rt:139:13
+pub returns-then-s-n-ne0 : goal.returns-then-s-n-ne0
+returns-then-s-n-ne0 c = (omega arith, sym (c.loop-n.invariant.1 ∙ stays _ c.loop-n.n (c.loop-n.n - 1) (omega arith) (omega arith) c.if-s-n-ne0.true))
+
+-- src/lib.rt:137:5
+pub loop-n-preserved : goal.loop-n-preserved
+loop-n-preserved c = (omega arith, c.loop-n.invariant.1 ∙ one_less _ c.loop-n.n (c.loop-n.n - 1) (omega arith) (omega arith) c.if-s-n-ne0.false)
+
+-- src/lib.rt:133:1
+pub returns : goal.returns
+returns c = (omega arith, sym (c.loop-n.invariant.1 ∙ ended _ c.loop-n.n (omega arith)))

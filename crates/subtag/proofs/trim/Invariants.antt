@@ -1,0 +1,18 @@
+-- `trim` stops at the last byte that is no NUL. Assumes nothing.
+use Rattle.subtag.proofs.Nuls.{one_less, stays, ended}
+use Rattle.subtag.specs.Subtag.{drop_nuls}
+use lib.Seq.{take-length}
+use lib.ListN.{length, take}
+use mathlib.Core.Path.{◌≡◌, sym, ap, ◌∙◌}
+use borrow.Author.Rules.{rules}
+use native.Mathlib.Omega.{arith}
+use Prim.Native.Nat.{◌≤◌, ◌-◌}
+use Rattle.subtag.proofs.trim.Reads as reads
+use Rattle.subtag.proofs.trim.Lts as lts
+use Rattle.subtag.proofs.trim.Given as goal
+
+abbrev pub invariant-loop-n : goal.invariant-loop-n
+invariant-loop-n l = (l.n ≤ length l.s) × (drop_nuls l.s ≡ drop_nuls (take l.n l.s))
+
+abbrev pub decreases-loop-n : goal.decreases-loop-n
+decreases-loop-n l = l.n

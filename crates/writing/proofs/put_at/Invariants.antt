@@ -1,0 +1,16 @@
+-- The first i bytes of x are pasted. Assumes nothing.
+use mathlib.Core.Path.{◌≡◌, sym, ap, ◌∙◌}
+use mathlib.Core.List.{List}
+use Prim.Native.Nat.{ℕ, ◌+◌, ◌-◌, ◌≤◌}
+use native.Mathlib.Numerals.{add-one}
+use native.Mathlib.Omega.{arith}
+use borrow.Author.Rules.{rules}
+use lib.ListN.{length, get_or, set}
+use lib.Seq.{paste, paste-zero, paste-suc, length-paste}
+use Rattle.writing.proofs.put_at.Given as goal
+
+abbrev pub invariant-loop-i : goal.invariant-loop-i
+invariant-loop-i l = (l.i ≤ l.n) × (((l.at + l.n ≤ length l.initial.out) × (l.n ≤ length l.x)) × (l.out ≡ paste l.initial.out l.at l.x l.i))
+
+abbrev pub decreases-loop-i : goal.decreases-loop-i
+decreases-loop-i l = l.n - l.i
