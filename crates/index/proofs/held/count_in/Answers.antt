@@ -1,0 +1,18 @@
+-- By whether counts are held. Assumes nothing.
+use Prim.Native.Nat.{ℕ, ◌%◌}
+use mathlib.Core.Path.{◌≡◌}
+use mathlib.Core.Bool.{Bool, true, false}
+use native.Mathlib.Omega.{arith}
+use Rattle.index.specs.Steps.{unit_of}
+use Rattle.index.proofs.held.count_in.Goals as goal
+
+beside : (w : ℕ) (b : Bool) → b ≡ true → w % 4294967296 ≡ w % unit_of b
+beside w b e = rw e
+none : (w : ℕ) (b : Bool) → b ≡ false → 0 ≡ w % unit_of b
+none w b e = rw e (omega arith)
+
+pub returns-then-counted : goal.returns-then-counted
+returns-then-counted c = beside _ _ c.if-counted.true
+
+pub returns-else-counted : goal.returns-else-counted
+returns-else-counted c = none _ _ c.if-counted.false
