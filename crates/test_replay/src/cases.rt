@@ -10,7 +10,7 @@ use kinds::{
 };
 
 // Which case a kind is, in 000's order of declaration, and the number that the case holds, 0 where it holds none.
-#[derive(Drop)]
+#[derive(Clone, Copy)]
 pub(crate) struct Case(u8, u16);
 
 // Answers a question at the front of `out`, and gives the answer's length. A tag that is none of these has no answer.
