@@ -1,7 +1,7 @@
 /*
  * Resource configuration records of Android packages, the directory names that stand for them, and the type chunks that hold them: fifteen
  * calls on numbers and bytes, seven on records, one on words of marks, two on the index of a run, one on names and four on chunks. Link
- * libres_table_config.a, which `rt staticlib res_table_config` writes to target/staticlib/ (x86-64 Linux).
+ * libres_table_config.a, which `rt lib` in crates/res_table_config writes to its folder out/ (x86-64 Linux).
  *
  * Answers. Each call answers one number: a refusal's number in the upper 32 bits, 0 for a success. The lower 32 bits hold a
  * success's amount, or what the refusal carries: 2 carries the row of a field, 11 an offset, the others carry 0. Refusals are tested in

@@ -7,6 +7,8 @@ use kinds::{
     WideColorGamut,
 };
 use numbers::number_in;
+use std::io;
+use std::rt::Env;
 use words_length::write_words;
 
 // The place of a word in a list with a space between each two, counted from 0; one past the last where it isn't there.
@@ -53,51 +55,48 @@ fn kind_of(place: usize, number: u32) -> Kind {
 }
 
 // Says that bytes are none of the kinds.
-fn no_kind(given: &[u8], list: &[u8]) {
-    say::misused();
-    say::quoted(given);
-    say::plainly(b" is no kind; the kinds are ");
-    say::plainly(list);
-    say::plainly(b"\n");
+fn no_kind(rt: &impl Print, given: &[u8], list: &[u8]) -> io::Result<()> {
+    say::misused(rt)?;
+    say::quoted(rt, given)?;
+    say::plainly(rt, b" is no kind; the kinds are ")?;
+    say::plainly(rt, list)?;
+    say::plainly(rt, b"\n")
 }
 
 // Says that bytes are no number up to the greatest.
-fn no_number(given: &[u8], greatest: u32) {
-    say::misused();
-    say::quoted(given);
-    say::plainly(b" is no number from 0 to ");
-    say::number(greatest as usize);
-    say::plainly(b" without leading zeros\n");
+fn no_number(rt: &impl Print, given: &[u8], greatest: u32) -> io::Result<()> {
+    say::misused(rt)?;
+    say::quoted(rt, given)?;
+    say::plainly(rt, b" is no number from 0 to ")?;
+    say::number(rt, greatest as usize)?;
+    say::plainly(rt, b" without leading zeros\n")
 }
 
 // Answers to the number of the kind at a place of the list.
-fn of_number(place: usize, given: &[u8]) {
+fn of_number(rt: &impl Print, place: usize, given: &[u8]) -> io::Result<()> {
     let number = number_in(given);
     let greatest = greatest(place);
     if greatest < number {
-        no_number(given, greatest);
-        return;
+        return no_number(rt, given, greatest);
     }
     let mut out = [0u8; 25];
     let answer = write_words(kind_of(place, number), &mut out);
-    say::written(answer, &out, b"\n");
+    say::written(rt, answer, &out, b"\n")
 }
 
 // Takes the kind and the number from the arguments and answers to them.
-pub(crate) fn answer(room: &mut [u8]) {
-    if !given::ends_at(3) {
-        say::misused();
-        say::plainly(b"words takes one KIND and one NUMBER\n");
-        return;
+pub(crate) fn answer(rt: &(impl Print + Env), room: &mut [u8]) -> io::Result<()> {
+    if !given::ends_at(rt, 3) {
+        say::misused(rt)?;
+        return say::plainly(rt, b"words takes one KIND and one NUMBER\n");
     }
     let list =
         b"GrammaticalGender LayoutDir ScreenSize ScreenLong ScreenRound WideColorGamut Hdr Orientation UIMode UIModeNight Density Touchscreen KeysHidden Keyboard NavHidden Navigation";
-    let n = os::arg(2, room);
+    let n = given::put(rt, 2, room);
     let place = place_in(list, &room[..n]);
     if 15 < place {
-        no_kind(&room[..n], list);
-        return;
+        return no_kind(rt, &room[..n], list);
     }
-    let n = os::arg(3, room);
-    of_number(place, &room[..n]);
+    let n = given::put(rt, 3, room);
+    of_number(rt, place, &room[..n])
 }

@@ -6,6 +6,7 @@ mod name;
 mod say;
 
 use compare::same;
+use std::io;
 
 // Room for the longest argument that Linux takes where a page has 4,096 bytes.
 const ROOM: usize = 131072;
@@ -30,19 +31,19 @@ fn task_of(word: &[u8]) -> Task {
 }
 
 // Says that a word has no task.
-fn unknown(word: &[u8]) {
-    say::misused();
-    say::quoted(word);
-    say::plainly(b" is none of its words\n");
+fn unknown(rt: &impl Print, word: &[u8]) -> io::Result<()> {
+    say::misused(rt)?;
+    say::quoted(rt, word)?;
+    say::plainly(rt, b" is none of its words\n")
 }
 
 // Lends the room for an argument, and has the task done that the first one names.
-fn main() {
+fn main(rt: HostRuntime) -> io::Result<()> {
     let mut room = [0u8; ROOM];
-    let n = os::arg(1, &mut room);
+    let n = given::put(&rt, 1, &mut room);
     match task_of(&room[..n]) {
-        Task::Name => name::answer(&mut room),
-        Task::Words => kind::answer(&mut room),
-        Task::Unknown => unknown(&room[..n]),
+        Task::Name => name::answer(&rt, &mut room),
+        Task::Words => kind::answer(&rt, &mut room),
+        Task::Unknown => unknown(&rt, &room[..n]),
     }
 }

@@ -7,69 +7,69 @@ use names::write_name;
 use reading::lesser;
 use record::Age;
 use record_line::{LONGEST_LINE, record_line};
+use std::io;
+use std::rt::Env;
 
 // Says a part of a name.
-fn say_part(part: &[u8]) {
+fn say_part(rt: &impl Print, part: &[u8]) -> io::Result<()> {
     if part.len() == 0 {
-        say::plainly(b"an empty part");
+        say::plainly(rt, b"an empty part")
     } else {
-        say::quoted(part);
+        say::quoted(rt, part)
     }
 }
 
 // Says why bytes are no name: the part at an offset, up to the next '-' or the end, is the first that ends no name.
-fn refuse(name: &[u8], offset: usize) {
+fn refuse(rt: &impl Print, name: &[u8], offset: usize) -> io::Result<()> {
     let at = lesser(offset, name.len());
     let end = at + up_to(&name[at..], b'-');
-    say::refused();
-    say::plainly(b"not a directory name: ");
-    say_part(&name[at..end]);
-    say::plainly(b" at offset ");
-    say::number(at);
-    say::plainly(b" ends no name\n");
+    say::refused(rt)?;
+    say::plainly(rt, b"not a directory name: ")?;
+    say_part(rt, &name[at..end])?;
+    say::plainly(rt, b" at offset ")?;
+    say::number(rt, at)?;
+    say::plainly(rt, b" ends no name\n")
 }
 
 // Prints a record: its bytes, or its line.
-fn print(record: &[u8], bytes: bool) {
+fn print(rt: &impl Print, record: &[u8], bytes: bool) -> io::Result<()> {
     if bytes {
-        say::answer();
-        say::plainly(record);
-        return;
+        say::answer(rt)?;
+        return say::plainly(rt, record);
     }
     let mut out = [0u8; LONGEST_LINE];
     let answer = record_line(record, Age::DEFAULT, 0, 0, &mut out);
-    say::written(answer, &out, b"");
+    say::written(rt, answer, &out, b"")
 }
 
 // Answers to a name.
-fn named(name: &[u8], bytes: bool) {
+fn named(rt: &impl Print, name: &[u8], bytes: bool) -> io::Result<()> {
     let mut record = [0u8; 64];
     match write_name(name, &mut record) {
-        Written::Wrote(_) => print(&record, bytes),
-        Written::Refused(why) => refuse(name, why.carried()),
+        Written::Wrote(_) => print(rt, &record, bytes),
+        Written::Refused(why) => refuse(rt, name, why.carried()),
     }
 }
 
 // Whether the argument behind the word says that the bytes are wanted.
-fn wants_bytes(room: &mut [u8]) -> bool {
-    let n = os::arg(2, room);
+fn wants_bytes(rt: &impl Env, room: &mut [u8]) -> bool {
+    let n = given::put(rt, 2, room);
     same(&room[..n], b"--bytes")
 }
 
 // Takes the name from the arguments and answers to it.
-pub(crate) fn answer(room: &mut [u8]) {
-    let bytes = wants_bytes(room);
+pub(crate) fn answer(rt: &(impl Print + Env), room: &mut [u8]) -> io::Result<()> {
+    let bytes = wants_bytes(rt, room);
     let last = if bytes { 3 } else { 2 };
-    if !given::ends_at(last) {
-        say::misused();
-        say::plainly(b"name takes one NAME, or --bytes and one NAME\n");
-        return;
+    if !given::ends_at(rt, last) {
+        say::misused(rt)?;
+        return say::plainly(rt, b"name takes one NAME, or --bytes and one NAME\n");
     }
-    let n = os::arg(last, room);
-    if os::errno() != 0 {
-        say::misused();
-        say::plainly(b"NAME is too long\n");
-        return;
+    match rt.arg(last, room) {
+        Ok(n) => named(rt, &room[..n], bytes),
+        Err(_) => {
+            say::misused(rt)?;
+            say::plainly(rt, b"NAME is too long\n")
+        }
     }
-    named(&room[..n], bytes);
 }

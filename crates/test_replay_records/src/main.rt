@@ -5,46 +5,66 @@
 mod offsets;
 mod records;
 
-use libc::{STDIN_FILENO, STDOUT_FILENO};
+use std::io;
+use std::io::{ErrorKind, Read};
 
 // Reads so many bytes to a buffer's front; says whether they are all there.
-fn filled(buffer: &mut [u8], length: usize) -> bool {
+fn filled(input: &mut impl Read, buffer: &mut [u8], length: usize) -> io::Result<bool> {
     let n = test_frames::front(length, buffer);
-    io::read_full(STDIN_FILENO, &mut buffer[..n]) == length
+    match input.read_exact(&mut buffer[..n]) {
+        Ok(()) => Ok(n == length),
+        Err(why) => {
+            if why.kind() == ErrorKind::UnexpectedEof {
+                Ok(false)
+            } else {
+                Err(why)
+            }
+        }
+    }
 }
 
-// Writes the line of an answer that ends at an offset of its buffer; says whether that went well.
-fn said(answer: &[u8], end: usize, line: &mut [u8]) -> bool {
+// Writes the line of an answer that ends at an offset of its buffer.
+fn say(rt: &impl Print, answer: &[u8], end: usize, line: &mut [u8]) -> io::Result<()> {
     let n = test_frames::front(end, answer);
     let end = test_frames::line(&answer[..n], line);
     let n = test_frames::front(end, line);
-    io::write_all(STDOUT_FILENO, &line[..n])
+    rt.write_all(&line[..n])
 }
 
 // Reads a question and writes its answer; says whether there may be another.
-fn turn(payload: &mut [u8], answer: &mut [u8], line: &mut [u8]) -> bool {
+fn turn(
+    rt: &impl Print,
+    input: &mut impl Read,
+    payload: &mut [u8],
+    answer: &mut [u8],
+    line: &mut [u8],
+) -> io::Result<bool> {
     let mut header = [0u8; 5];
-    if !filled(&mut header, 5) {
-        return false;
+    if !filled(input, &mut header, 5)? {
+        return Ok(false);
     }
     let tag = header[0];
     let length = test_frames::four(&header[1..]);
-    if !filled(payload, length) {
-        return false;
+    if !filled(input, payload, length)? {
+        return Ok(false);
     }
     let n = test_frames::front(length, payload);
     let end = records::answer(tag, &payload[..n], answer);
-    said(answer, end, line)
+    say(rt, answer, end, line)?;
+    Ok(true)
 }
 
 // Lends the buffers: a payload of 65,536 bytes with as many lent as a question has and some more, an answer of 65,536, and its
-// line. Nothing says that the input ends, so the turns are counted, down from more than any run has.
-fn main() {
+// line. Nothing says that the input ends, so the turns are counted, and are more than any run has.
+fn main(rt: HostRuntime) -> io::Result<()> {
     let mut payload = [0u8; 73728];
     let mut answer = [0u8; 65792];
     let mut line = [0u8; 131585];
-    let mut turns = u32::MAX;
-    while turns > 0 && turn(&mut payload, &mut answer, &mut line) {
-        turns -= 1;
+    let mut input = rt.stdin();
+    for _ in 0..u32::MAX {
+        if !turn(&rt, &mut input, &mut payload, &mut answer, &mut line)? {
+            break;
+        }
     }
+    Ok(())
 }
