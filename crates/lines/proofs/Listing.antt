@@ -41,9 +41,13 @@ module _ (a : ℕ) (s : List ℕ) (known : is_age a ≡ true) (small : length s 
   unfolding calls_of cursor_of
   ended c = record {
     calls = λ olds. elim olds as (λ os. Roomy os → length os ≡ 0 → calls_of a s c os ≡ each_wrote [] os) [
-        [] ↦ λ r e. refl | old ∷ olds ↦ λ r e. absurd (omega arith) ];
+      | [] ↦ λ r e. refl
+      | old ∷ olds ↦ λ r e. absurd (omega arith)
+    ];
     leads = λ olds. elim olds as (λ os. Roomy os → length os ≡ 0 → cursor_of a s c os ≡ c) [
-        [] ↦ λ r e. refl | old ∷ olds ↦ λ r e. absurd (omega arith) ];
+      | [] ↦ λ r e. refl
+      | old ∷ olds ↦ λ r e. absurd (omega arith)
+    ];
   }
 
   -- a line, and those behind it

@@ -1,5 +1,5 @@
 -- 01, "Numbers given back": what the writer writes and when it refuses, and which bytes it gives back as they were. Assumes nothing.
-use Rattle.std.specs.Prelude.{ℕ, zero, suc, ◌/◌, ◌%◌, ◌<◌, ◌≤◌, ◌≡◌, List, [], ◌∷◌, Bool, true, false, cond, ◌||◌, ◌&&◌, leb, ltb, length, get_or, replicate}
+use Rattle.std.specs.Prelude.{ℕ, zero, suc, ◌/◌, ◌%◌, ◌<◌, ◌≤◌, ◌≡◌, List, [], ◌∷◌, Bool, true, false, cond, ◌||◌, ◌&&◌, leb, ltb, get_or, replicate}
 use Rattle.std.proofs.Math.Seq.{paste}
 use Rattle.laws.specs.Below.{some_below, each_below}
 use Rattle.answers.specs.declared.Refusal.{Refusal}

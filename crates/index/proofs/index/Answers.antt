@@ -12,6 +12,7 @@ use Rattle.index.proofs.index.Goals as goal
 
 both : {a b : Outcome} {x y : RunEnd} → a ≡ b → x ≡ y → ◌≡◌ {A = IndexOutcome} (record { does = a; run = x }) (record { does = b; run = y })
 both e f = cc
+
 pub gather-m-requires : goal.gather-m-requires
 gather-m-requires c = (refl, (omega (arith, c.lesser-room.ensures), (λ e. ltb-true _ _ e)))
 

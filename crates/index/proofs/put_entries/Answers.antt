@@ -17,10 +17,10 @@ bounds-held-j c = omega (arith, c.requires)
 
 pub loop-j-preserved : goal.loop-j-preserved
 loop-j-preserved c = (
-      omega arith,
-      put_more _ c.args.counted c.args.held.now c.loop-j.j _ _ (omega (arith, c.requires)) c.offset_in-offset.ensures c.count_in-count.ensures c.loop-j.invariant.1
-          (rw c.record_at-x.ensures at c.put_entry-o.ensures),
-    )
+  omega arith,
+  put_more _ c.args.counted c.args.held.now c.loop-j.j _ _ (omega (arith, c.requires)) c.offset_in-offset.ensures c.count_in-count.ensures c.loop-j.invariant.1
+      (rw c.record_at-x.ensures at c.put_entry-o.ensures),
+)
 
 pub returns : goal.returns
 returns c = put_to _ c.args.counted c.args.held.now c.loop-j.j c.args.m (omega (arith, c.loop-j.invariant.0, c.loop-j-test)) c.loop-j.invariant.1

@@ -1,5 +1,4 @@
 -- Eight words and the later fields are put in a row. Assumes nothing.
-use borrow.Author.Rules.{rules}
 use Rattle.buffer.proofs.Putting.{put_put}
 use Rattle.keys.specs.Keys.{key_of}
 use Rattle.keys.proofs.put_key.Goals as goal

@@ -1,5 +1,4 @@
 -- The four bytes are put in a row. Assumes nothing.
-use borrow.Author.Rules.{rules}
 use Rattle.buffer.proofs.Putting.{put_put}
 use Rattle.keys.proofs.put_word.Goals as goal
 

@@ -1,5 +1,4 @@
 -- The four words are put in a row. Assumes nothing.
-use borrow.Author.Rules.{rules}
 use Rattle.buffer.proofs.Putting.{put_put}
 use Rattle.keys.proofs.put_words.Goals as goal
 

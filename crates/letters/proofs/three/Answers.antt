@@ -13,10 +13,10 @@ returns-then-not-within-2 c = rw (sym c.within.ensures ∙ c.if-not-within.false
 
 pub returns-then-not-within-3 : goal.returns-then-not-within-3
 returns-then-not-within-3 c = rw (
-      sym c.within.ensures ∙ c.if-not-within.false,
-      sym c.within-2.ensures ∙ c.if-not-within-2.false,
-      sym c.within-3.ensures ∙ c.if-not-within-3.true,
-    )
+  sym c.within.ensures ∙ c.if-not-within.false,
+  sym c.within-2.ensures ∙ c.if-not-within-2.false,
+  sym c.within-3.ensures ∙ c.if-not-within-3.true,
+)
 
 pub overflow_sub-x : goal.overflow_sub-x
 overflow_sub-x c = let first : Within c.args.lo c.args.hi c.args.a = within_says _ _ _ (sym c.within.ensures ∙ c.if-not-within.false) in first.low

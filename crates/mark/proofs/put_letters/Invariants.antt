@@ -1,14 +1,9 @@
 -- The first i letters are put, and what is left of the word has the others. Assumes nothing.
 use Prim.Native.Nat.{◌-◌, ◌/◌, ◌^◌, ◌≤◌}
-use mathlib.Core.Path.{◌≡◌, sym}
-use native.Mathlib.Nat.{div-one}
-use native.Mathlib.Omega.{arith}
-use borrow.Author.Rules.{rules}
+use mathlib.Core.Path.{◌≡◌}
 use lib.ListN.{length, take}
 use Rattle.buffer.specs.Put.{Put}
-use Rattle.buffer.proofs.Putting.{put_nil, put_all}
 use Rattle.mark.specs.Word.{letters_of}
-use Rattle.mark.proofs.Letters.{letter_here, letter_next, letters_length, next_rest}
 use Rattle.mark.proofs.put_letters.Given as goal
 
 abbrev pub invariant-loop-i : goal.invariant-loop-i

@@ -5,7 +5,7 @@ use borrow.Author.Rules.{rules}
 use Rattle.buffer.proofs.Writing.{put_written, written_short}
 use Rattle.mark.specs.Word.{letters_of}
 use Rattle.mark.proofs.Letters.{letters_length}
-use Rattle.mark.proofs.Exactly.{letters_refused, letters_given}
+use Rattle.mark.proofs.Exactly.{letters_given}
 use Rattle.mark.proofs.write_letters.Goals as goal
 
 pub returns-then-out-lt14 : goal.returns-then-out-lt14

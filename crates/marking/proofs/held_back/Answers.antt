@@ -1,8 +1,6 @@
 -- 3, then the refusals of `take`, then what the bytes say. Assumes nothing.
 use mathlib.Core.Path.{sym, ap, ◌∙◌}
 use mathlib.Core.Bool.{true, false}
-use borrow.Author.Rules.{rules}
-use borrow.Author.Tests.{not-true, not-false}
 use Rattle.answers.specs.Tells.{taken_tells}
 use Rattle.reading.proofs.Whole.{age_unknown}
 use Rattle.marking.proofs.Answering.{refuses, held_said}

@@ -1,11 +1,8 @@
 -- The search goes on while the bytes passed are zero. Assumes nothing.
-use Prim.Native.Nat.{◌-◌}
-use mathlib.Core.Path.{◌≡◌, refl, sym, ap, ◌∙◌}
+use mathlib.Core.Path.{sym, ap, ◌∙◌}
 use mathlib.Core.Bool.{not}
 use native.Mathlib.Omega.{arith}
-use lib.ListN.{take, drop}
-use Rattle.record.specs.Table.{all_zero}
-use Rattle.marking.proofs.Zeros.{zero_here, found_here, none_left}
+use Rattle.marking.proofs.Zeros.{found_here}
 use Rattle.marking.proofs.late_bytes.Goals as goal
 
 pub returns-then-bytes-i-ne0 : goal.returns-then-bytes-i-ne0

@@ -1,6 +1,5 @@
 -- The letters of the word that is given, or its refusal. Assumes nothing.
 use mathlib.Core.Path.{sym, ap, ◌∙◌}
-use borrow.Author.Rules.{rules}
 use Rattle.marking.specs.declared.Marked.{Marked}
 use Rattle.marking.specs.Marks.{marked_tells}
 use Rattle.marking.proofs.Word.{marks_by}

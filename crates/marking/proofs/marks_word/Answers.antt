@@ -1,7 +1,5 @@
 -- 3, then the refusals of `take`, then the word is given. Assumes nothing.
 use mathlib.Core.Path.{sym, ap, ◌∙◌}
-use borrow.Author.Rules.{rules}
-use borrow.Author.Tests.{not-true, not-false}
 use Rattle.answers.specs.Tells.{success, taken_tells}
 use Rattle.reading.proofs.Whole.{age_unknown, took_says}
 use Rattle.marking.proofs.Answering.{gives, refuses}

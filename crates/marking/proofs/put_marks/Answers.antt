@@ -1,5 +1,4 @@
 -- The letters of the word are put. Assumes nothing.
-use borrow.Author.Rules.{rules}
 use Rattle.marking.specs.Marks.{letters_in}
 use Rattle.marking.proofs.put_marks.Goals as goal
 

@@ -1,12 +1,11 @@
 -- The word has the marks behind field f, and takes that of field f next. Assumes nothing.
-use Prim.Native.Nat.{◌≤◌}
-use mathlib.Core.Path.{◌≡◌, refl, ap, ◌∙◌}
+use mathlib.Core.Path.{◌≡◌, ap, ◌∙◌}
 use native.Mathlib.Omega.{arith}
 use lib.ListN.{drop}
-use Rattle.mark.specs.Word.{bits_of, in_one_word}
+use Rattle.mark.specs.Word.{in_one_word}
 use Rattle.mark.proofs.Words.{bits_below}
 use Rattle.marking.specs.Marks.{word_in}
-use Rattle.marking.proofs.Marking.{marks_from, mark_there, field_room, field_turn}
+use Rattle.marking.proofs.Marking.{marks_from, field_room}
 use Rattle.marking.proofs.word_in.Goals as goal
 
 pub overflow_mul-word : goal.overflow_mul-word

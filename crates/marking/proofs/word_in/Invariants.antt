@@ -1,12 +1,9 @@
 -- The word has the marks behind field f, and takes that of field f next. Assumes nothing.
 use Prim.Native.Nat.{◌≤◌}
-use mathlib.Core.Path.{◌≡◌, refl, ap, ◌∙◌}
-use native.Mathlib.Omega.{arith}
+use mathlib.Core.Path.{◌≡◌}
 use lib.ListN.{drop}
-use Rattle.mark.specs.Word.{bits_of, in_one_word}
-use Rattle.mark.proofs.Words.{bits_below}
-use Rattle.marking.specs.Marks.{word_in}
-use Rattle.marking.proofs.Marking.{marks_from, mark_there, field_room, field_turn}
+use Rattle.mark.specs.Word.{in_one_word}
+use Rattle.marking.proofs.Marking.{marks_from}
 use Rattle.marking.proofs.word_in.Given as goal
 
 abbrev pub invariant-loop-f : goal.invariant-loop-f

@@ -1,6 +1,5 @@
 -- A step answers as `further` says. Assumes nothing.
 use native.Mathlib.Omega.{arith}
-use borrow.Author.Rules.{rules}
 use Rattle.numbers.proofs.Numbers.{further_low, further_high, further_fits, further_large}
 use Rattle.numbers.proofs.further.Goals as goal
 

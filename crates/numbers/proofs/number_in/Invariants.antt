@@ -1,10 +1,8 @@
 -- `number_in` reads digit by digit. Assumes nothing.
 use Prim.Native.Nat.{◌≤◌, ◌-◌}
-use mathlib.Core.Path.{◌≡◌, sym, ◌∙◌}
-use native.Mathlib.Omega.{arith}
+use mathlib.Core.Path.{◌≡◌}
 use lib.ListN.{length, drop}
 use Rattle.numbers.specs.Numbers.{further_all, number_in}
-use Rattle.numbers.proofs.Numbers.{number_empty, number_zero, number_is, further_at, further_end}
 use Rattle.numbers.proofs.number_in.Given as goal
 
 abbrev pub invariant-loop-i : goal.invariant-loop-i

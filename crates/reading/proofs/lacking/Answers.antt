@@ -1,10 +1,6 @@
 -- The loop passes the rows that aren't cut, so it stops at the least that is. Assumes nothing.
-use Prim.Native.Nat.{◌-◌}
 use mathlib.Core.Path.{sym, ◌∙◌}
-use native.Mathlib.Nat.{not-suc-le-zero}
 use native.Mathlib.Omega.{arith}
-use Rattle.laws.proofs.Least.{NoneBelow, one_passed}
-use Rattle.reading.specs.Cut.{cut_at}
 use Rattle.reading.proofs.Cut.{lacking_row, lacking_none}
 use Rattle.reading.proofs.lacking.Goals as goal
 

@@ -1,6 +1,5 @@
 -- At 64 all is known. Assumes nothing.
 use Rattle.reading.proofs.Limits.{aged_plain}
-use borrow.Author.Rules.{rules}
 use Rattle.reading.proofs.parse.Goals as goal
 
 pub returns : goal.returns

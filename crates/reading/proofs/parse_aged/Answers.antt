@@ -1,6 +1,5 @@
 -- An age that is none of the twelve is refused first; of the others the reading is at that age. Assumes nothing.
 use mathlib.Core.Path.{sym, ◌∙◌}
-use borrow.Author.Rules.{rules}
 use Rattle.reading.proofs.Whole.{age_known, age_unknown}
 use Rattle.reading.proofs.parse_aged.Goals as goal
 

@@ -1,7 +1,6 @@
 -- What is read ends within T and the age; else the refusal is that of `take`. Assumes nothing.
 use mathlib.Core.Path.{sym, ap, ◌∙◌}
 use native.Mathlib.Omega.{arith}
-use borrow.Author.Rules.{rules}
 use Rattle.answers.specs.Tells.{taken_tells}
 use Rattle.reading.proofs.Limits.{aged_is}
 use Rattle.reading.proofs.Whole.{took_says, took_whole, refused_whole}

@@ -4,7 +4,6 @@ use mathlib.Core.Path.{sym, ap, ◌∙◌}
 use Rattle.answers.specs.Tells.{refusal}
 use Rattle.reading.specs.Cut.{lacking}
 use Rattle.reading.proofs.Whole.{whole_short, whole_cut, took_is}
-use borrow.Author.Rules.{rules}
 use Rattle.reading.proofs.take.Goals as goal
 
 pub returns-then-bytes-lt16 : goal.returns-then-bytes-lt16

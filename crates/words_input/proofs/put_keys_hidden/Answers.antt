@@ -1,5 +1,4 @@
 -- Each case puts its own words. Assumes nothing.
-use borrow.Author.Rules.{rules}
 use Rattle.buffer.proofs.Putting.{put_nil}
 use Rattle.words_input.proofs.put_keys_hidden.Goals as goal
 

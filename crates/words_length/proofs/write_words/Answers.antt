@@ -1,7 +1,6 @@
 -- `write_words` puts the words where they fit. Assumes nothing.
 use mathlib.Core.Path.{sym}
 use native.Mathlib.Omega.{arith}
-use borrow.Author.Rules.{rules}
 use Rattle.buffer.proofs.Writing.{put_written, written_short}
 use Rattle.words_length.proofs.write_words.Goals as goal
 

@@ -1,11 +1,8 @@
 -- Each arm gives the bytes of its field. Assumes nothing.
 use mathlib.Core.Path.{◌≡◌, ap, ◌∙◌}
-use mathlib.Core.List.{[], ◌∷◌}
-use Prim.Native.Nat.{ℕ}
 use native.Mathlib.Omega.{arith}
 use lib.ListN.{length, take}
 use lib.Seq.{take_all}
-use Rattle.laws.proofs.Arms.{last_one}
 use Rattle.laws.proofs.Lists.{elements}
 use Rattle.writing.specs.Writing.{bytes_of}
 use Rattle.writing.proofs.Arms.{arm}

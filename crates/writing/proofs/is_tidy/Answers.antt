@@ -1,14 +1,10 @@
 -- The fields before f are read or zero. Assumes nothing.
 use mathlib.Core.Path.{◌≡◌, sym, ap, ◌∙◌}
-use mathlib.Core.Bool.{true}
-use mathlib.Core.Logic.{⊎_elim}
-use Prim.Native.Nat.{ℕ, ◌-◌, ◌≤◌, ◌<◌}
+use Prim.Native.Nat.{ℕ, ◌<◌}
 use native.Mathlib.Omega.{arith}
-use borrow.Author.Rules.{rules}
-use Rattle.reading.proofs.Limits.{start_end}
 use Rattle.laws.specs.Below.{each_below}
-use Rattle.laws.proofs.Below.{each_none, each_more, each_stop}
-use Rattle.writing.specs.Writing.{span, keeps, tidy}
+use Rattle.laws.proofs.Below.{each_more, each_stop}
+use Rattle.writing.specs.Writing.{keeps, tidy}
 use Rattle.writing.proofs.Answers.{whole-tidy}
 use Rattle.writing.proofs.Held.{held_is, zero_is, neither_is}
 use Rattle.writing.proofs.is_tidy.Goals as goal
@@ -26,14 +22,14 @@ returns-then-late_bytes c = let h : c.loop-f.f < 15 = omega arith in
 
 pub loop-f-preserved : goal.loop-f-preserved
 loop-f-preserved c = let h : c.loop-f.f < 15 = omega arith in (
-      omega arith,
-      c.loop-f.invariant.1,
-      each_more (keeps c.args.r) c.loop-f.f c.loop-f.invariant.2
-          (elim c.if-t-end.branch [
-            then-t-end+else-late_bytes w ↦ zero_is c.args.r _ c.loop-f.f c.loop-f.invariant.1 h _ w.field_of-x.ensures _ w.late_bytes.ensures w.if-late_bytes.false
-          | else-t-end w ↦ held_is c.args.r _ c.loop-f.f c.loop-f.invariant.1 h (omega (arith, w.if-t-end.false))
-          ]),
-    )
+  omega arith,
+  c.loop-f.invariant.1,
+  each_more (keeps c.args.r) c.loop-f.f c.loop-f.invariant.2
+      (elim c.if-t-end.branch [
+        | then-t-end+else-late_bytes w ↦ zero_is c.args.r _ c.loop-f.f c.loop-f.invariant.1 h _ w.field_of-x.ensures _ w.late_bytes.ensures w.if-late_bytes.false
+        | else-t-end w ↦ held_is c.args.r _ c.loop-f.f c.loop-f.invariant.1 h (omega (arith, w.if-t-end.false))
+      ]),
+)
 
 pub returns : goal.returns
 unfolding tidy

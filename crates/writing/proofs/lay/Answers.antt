@@ -1,15 +1,12 @@
 -- The fields before f are laid. Assumes nothing.
 use mathlib.Core.Path.{◌≡◌, refl, ap, ◌∙◌}
-use mathlib.Core.List.{◌++◌}
-use mathlib.Core.Logic.{⊎_elim}
-use Prim.Native.Nat.{ℕ, ◌-◌, ◌≤◌, ◌<◌}
+use Prim.Native.Nat.{◌≤◌, ◌<◌}
 use native.Mathlib.Omega.{arith}
 use borrow.Author.Rules.{rules}
-use lib.ListN.{length, drop}
+use lib.ListN.{length}
 use lib.Seq.{length-paste}
 use Rattle.record.specs.Table.{start_of, end_of, width_of}
 use Rattle.reading.proofs.Limits.{start_end}
-use Rattle.writing.specs.Writing.{span, laid}
 use Rattle.writing.proofs.Held.{width_most, read_at, unread_at}
 use Rattle.writing.proofs.Laid.{laid_none, laid_past, laid_more, laid_length}
 use Rattle.writing.proofs.lay.Goals as goal
@@ -26,14 +23,14 @@ loop-f-preserved c = let h : c.loop-f.f < 15 = omega arith in
       c.loop-f.invariant.1,
       c.loop-f.invariant.2,
       elim c.if-end-t.branch [
-          then-end-t w ↦ let g : end_of c.loop-f.f ≤ c.args.t = omega (arith, w.if-end-t.true) in
-          let n : length w.field_of-x.result ≡ 8 = search rules in (
-            ap length (w.out-is ∙ w.put_at.ensures)
-                ∙ length-paste c.loop-f.out (start_of c.loop-f.f) _ (width_of c.loop-f.f) (omega arith) (omega (arith, width_most c.loop-f.f h))
-                ∙ c.loop-f.invariant.3.0,
-            w.out-is ∙ w.put_at.ensures
-                ∙ laid_more c.args.r c.args.out.now c.args.t c.loop-f.f _ c.loop-f.out (read_at c.args.r c.args.t c.loop-f.f c.loop-f.invariant.1 h g) w.field_of-x.ensures c.loop-f.invariant.3.1 (omega arith),
-          )
+        | then-end-t w ↦ let g : end_of c.loop-f.f ≤ c.args.t = omega (arith, w.if-end-t.true) in
+            let n : length w.field_of-x.result ≡ 8 = search rules in (
+              ap length (w.out-is ∙ w.put_at.ensures)
+                  ∙ length-paste c.loop-f.out (start_of c.loop-f.f) _ (width_of c.loop-f.f) (omega arith) (omega (arith, width_most c.loop-f.f h))
+                  ∙ c.loop-f.invariant.3.0,
+              w.out-is ∙ w.put_at.ensures
+                  ∙ laid_more c.args.r c.args.out.now c.args.t c.loop-f.f _ c.loop-f.out (read_at c.args.r c.args.t c.loop-f.f c.loop-f.invariant.1 h g) w.field_of-x.ensures c.loop-f.invariant.3.1 (omega arith),
+            )
         | else-end-t w ↦ (ap length w.out-is ∙ c.loop-f.invariant.3.0, w.out-is ∙ c.loop-f.invariant.3.1 ∙ laid_past c.args.r c.args.out.now c.args.t c.loop-f.f (unread_at c.args.r c.args.t c.loop-f.f c.loop-f.invariant.1 h w.if-end-t.false))
-        ],
+      ],
     )

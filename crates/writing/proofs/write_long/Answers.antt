@@ -1,12 +1,7 @@
 -- Each answer is what `write_of` says. Assumes nothing.
-use Prim.Native.Nat.{ℕ, ◌≤◌}
-use mathlib.Core.Path.{sym, ap, ◌∙◌}
+use mathlib.Core.Path.{sym, ◌∙◌}
 use native.Mathlib.Omega.{arith}
-use lib.ListN.{length, take, drop, replicate, length-replicate}
-use lib.Seq.{take_at}
-use borrow.Author.Rules.{rules}
 use Rattle.record.proofs.Shapes.{shaped}
-use Rattle.writing.proofs.Laid.{cleared_length}
 use Rattle.writing.proofs.Answers.{short-is, laid-is, unread_is}
 use Rattle.writing.proofs.write_long.Goals as goal
 

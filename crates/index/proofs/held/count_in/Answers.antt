@@ -8,6 +8,7 @@ use Rattle.index.proofs.held.count_in.Goals as goal
 
 beside : (w : ℕ) (b : Bool) → b ≡ true → w % 4294967296 ≡ w % unit_of b
 beside w b e = rw e
+
 none : (w : ℕ) (b : Bool) → b ≡ false → 0 ≡ w % unit_of b
 none w b e = rw e (omega arith)
 

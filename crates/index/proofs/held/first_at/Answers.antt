@@ -8,6 +8,7 @@ use Rattle.index.proofs.held.first_at.Goals as goal
 
 alone : (p : ℕ) (b : Bool) → b ≡ false → p ≡ p * unit_of b + count_step b
 alone p b e = rw e (omega arith)
+
 beside : (p : ℕ) (b : Bool) → b ≡ true → p * 4294967296 + 1 ≡ p * unit_of b + count_step b
 beside p b e = rw e
 

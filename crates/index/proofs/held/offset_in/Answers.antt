@@ -8,6 +8,7 @@ use Rattle.index.proofs.held.offset_in.Goals as goal
 
 alone : (w : ℕ) (b : Bool) → b ≡ false → w ≡ w / unit_of b
 alone w b e = rw e (omega arith)
+
 beside : (w : ℕ) (b : Bool) → b ≡ true → w / 4294967296 ≡ w / unit_of b
 beside w b e = rw e
 

@@ -6,6 +6,6 @@ use Rattle.index.proofs.recount.half_at.Goals as goal
 
 pub returns : goal.returns
 returns c = (
-      rw (← row c.args.bytes.now c.args.at 3 (omega arith)) (search rules),
-      omega (arith, c.wide-4.ensures, c.wide-3.ensures, c.wide-2.ensures, c.wide.ensures),
-    )
+  rw (← row c.args.bytes.now c.args.at 3 (omega arith)) (search rules),
+  omega (arith, c.wide-4.ensures, c.wide-3.ensures, c.wide-2.ensures, c.wide.ensures),
+)

@@ -1,7 +1,6 @@
 -- Field f is its bytes where it ends within the limit, and zeros where not. Assumes nothing.
 use mathlib.Core.Path.{sym}
 use Rattle.reading.proofs.FieldBytes.{read_row, zero_is}
-use borrow.Author.Rules.{rules}
 use Rattle.reading.proofs.fields.four_field.Goals as goal
 
 pub returns-then-f-limit : goal.returns-then-f-limit

@@ -2,7 +2,6 @@
 use mathlib.Core.Path.{sym, ap, ◌∙◌}
 use Rattle.record.specs.Table.{le}
 use Rattle.reading.proofs.FieldBytes.{read_is, zero_is}
-use borrow.Author.Rules.{rules}
 use Rattle.reading.proofs.fields.word_field.Goals as goal
 
 pub returns-then-f-limit : goal.returns-then-f-limit

@@ -5,7 +5,6 @@ use mathlib.Core.List.{List}
 use Prim.Native.Nat.{ℕ}
 use Rattle.record.specs.Table.{all_zero}
 use Rattle.reading.proofs.FieldBytes.{read_row, zero_is}
-use borrow.Author.Rules.{rules}
 use Rattle.reading.proofs.fields.yes_field.Goals as goal
 
 pub returns-then-f-limit : goal.returns-then-f-limit

@@ -1,8 +1,5 @@
 -- What stands in front is short, and no number has more than twenty digits. Assumes nothing.
 use native.Mathlib.Omega.{arith}
-use borrow.Author.Rules.{rules}
-use lib.ListN.{length-append}
-use Rattle.buffer.specs.Decimal.{decimal}
 use Rattle.buffer.proofs.Digits.{decimal_long}
 use Rattle.words_length.proofs.lengths.label_length.Goals as goal
 
