@@ -7,7 +7,6 @@ use native.Mathlib.Omega.{arith}
 use lib.Dec.{eqb}
 use borrow.Author.Tests.{eqb-true, eqb-false, ne_eqb}
 use Rattle.laws.proofs.Choice.{chosen_by}
-use Rattle.record.specs.declared.ResTableConfig.{ResTableConfig}
 use Rattle.record.specs.Accessors.{mcc_mnc_of}
 use Rattle.record.specs.Table.{bit}
 use Rattle.places.specs.Places.{places_of}

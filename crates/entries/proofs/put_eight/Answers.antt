@@ -1,5 +1,4 @@
 -- The lower half is put, and then the upper. Assumes nothing.
-use borrow.Author.Rules.{rules}
 use Rattle.buffer.proofs.Putting.{put_put}
 use Rattle.entries.proofs.put_eight.Goals as goal
 

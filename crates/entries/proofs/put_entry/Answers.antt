@@ -1,5 +1,4 @@
 -- Key, offset and count are put in a row. Assumes nothing.
-use borrow.Author.Rules.{rules}
 use Rattle.buffer.proofs.Putting.{put_put}
 use Rattle.entries.specs.Entry.{entry_of}
 use Rattle.entries.proofs.put_entry.Goals as goal

@@ -1,5 +1,4 @@
 -- The four bytes are put in a row. Assumes nothing.
-use borrow.Author.Rules.{rules}
 use Rattle.buffer.proofs.Putting.{put_put}
 use Rattle.entries.proofs.put_four.Goals as goal
 

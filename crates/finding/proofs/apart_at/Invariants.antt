@@ -1,12 +1,9 @@
 -- The loop passes the bytes that are the key's: what is left agrees as the whole does. Assumes nothing.
 use Prim.Native.Nat.{◌-◌, ◌≤◌}
-use mathlib.Core.Path.{◌≡◌, refl, sym, ◌∙◌}
-use native.Mathlib.Omega.{arith}
+use mathlib.Core.Path.{◌≡◌}
 use lib.ListN.{drop}
-use borrow.Author.Tests.{ne_eqb}
 use Rattle.record.specs.Table.{part}
 use Rattle.order.specs.Order.{agree}
-use Rattle.finding.proofs.Seeking.{byte_apart, byte_passed, all_passed}
 use Rattle.finding.proofs.apart_at.Given as goal
 
 abbrev pub invariant-loop-i : goal.invariant-loop-i

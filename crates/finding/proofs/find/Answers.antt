@@ -1,6 +1,5 @@
 -- The key is put, its place is looked for, and what stands there is given. Assumes nothing.
 use mathlib.Core.Path.{refl}
-use borrow.Author.Rules.{rules}
 use Rattle.finding.proofs.Seeking.{key_filled, found_entry, found_nothing}
 use Rattle.finding.proofs.find.Goals as goal
 

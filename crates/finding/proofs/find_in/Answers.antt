@@ -1,10 +1,7 @@
 -- The refusals of the parse, then what is found. Assumes nothing.
 use Prim.Native.Nat.{ℕ, ◌<◌}
-use mathlib.Core.Path.{sym, ap, ◌∙◌}
+use mathlib.Core.Path.{ap, ◌∙◌}
 use mathlib.Core.List.{List}
-use native.Mathlib.Omega.{arith}
-use lib.Seq.{length-take-le}
-use borrow.Author.Rules.{rules}
 use Rattle.finding.specs.Finding.{find_of, found_tells, looked_at}
 use Rattle.finding.proofs.Telling.{found_small, take_lesser, parse_refused, parse_took}
 use Rattle.finding.proofs.find_in.Goals as goal

@@ -1,12 +1,7 @@
 -- The loop passes the entries that don't have the key, so it stops at the first that has. Assumes nothing.
 use Prim.Native.Nat.{◌-◌, ◌≤◌, ◌<◌}
-use mathlib.Core.Path.{◌∙◌}
-use native.Mathlib.Nat.{not-suc-le-zero}
-use native.Mathlib.Omega.{arith}
-use borrow.Author.Tests.{eq-eqb, ne_eqb}
-use Rattle.laws.proofs.Least.{NoneBelow, one_passed}
+use Rattle.laws.proofs.Least.{NoneBelow}
 use Rattle.finding.specs.Finding.{whole_in, has_key}
-use Rattle.finding.proofs.Seeking.{byte_apart, entry_agrees, place_found, place_none}
 use Rattle.finding.proofs.place_of.Given as goal
 
 abbrev pub invariant-loop-place : goal.invariant-loop-place

@@ -1,5 +1,4 @@
 -- The subtag is put where it fits, else the call is refused. Assumes nothing.
-use borrow.Author.Rules.{rules}
 use Rattle.subtag.proofs.Copying.{copy_short, copy_written}
 use Rattle.language.proofs.write_unpacked.Goals as goal
 

@@ -1,11 +1,9 @@
 -- The sign and the subtag, where it is there. Assumes nothing.
-use mathlib.Core.Path.{sym}
 use native.Mathlib.Omega.{arith}
-use borrow.Author.Rules.{rules}
 use Rattle.buffer.proofs.Putting.{reach_fits}
 use Rattle.subtag.specs.Subtag.{subtag_of}
 use Rattle.subtag.proofs.Long.{subtag_long}
-use Rattle.locale.proofs.Long.{behind_none_long, behind_there_long}
+use Rattle.locale.proofs.Long.{behind_there_long}
 use Rattle.locale.proofs.behind_length.Goals as goal
 
 pub overflow_add-result : goal.overflow_add-result

@@ -1,7 +1,6 @@
 -- The parts of the format that is called for add up. Assumes nothing.
 use mathlib.Core.Path.{◌≡◌, sym, ◌∙◌}
 use native.Mathlib.Omega.{arith}
-use borrow.Author.Rules.{rules}
 use lib.ListN.{length}
 use Rattle.locale.specs.Locale.{locale_words, new_words, legacy_words}
 use Rattle.locale.proofs.Long.{words_long, legacy_parts}

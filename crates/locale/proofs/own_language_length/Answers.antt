@@ -1,7 +1,6 @@
 -- The language's length, and its bound. Assumes nothing.
 use Prim.Native.Nat.{◌/◌, ◌%◌}
 use native.Mathlib.Omega.{arith}
-use borrow.Author.Rules.{rules}
 use Rattle.language.proofs.Long.{language_long}
 use Rattle.locale.proofs.own_language_length.Goals as goal
 

@@ -1,13 +1,13 @@
 -- The sign and the region, where there is one. Assumes nothing.
 use Prim.Native.Nat.{◌/◌, ◌%◌}
-use mathlib.Core.Path.{sym, ap}
+use mathlib.Core.Path.{ap}
 use mathlib.Core.Bool.{not}
 use native.Mathlib.Omega.{arith}
 use borrow.Author.Rules.{rules}
-use borrow.Author.Tests.{eq-eqb, ne_eqb}
+use borrow.Author.Tests.{ne_eqb}
 use Rattle.language.proofs.Long.{region_long}
 use Rattle.locale.specs.Locale.{region}
-use Rattle.locale.proofs.Long.{behind_none_long, behind_there_long}
+use Rattle.locale.proofs.Long.{behind_there_long}
 use Rattle.locale.proofs.own_region_length.Goals as goal
 
 pub overflow_add-result : goal.overflow_add-result

@@ -1,7 +1,5 @@
 -- The format that is called for. Assumes nothing.
-use mathlib.Core.Path.{sym, ◌∙◌}
 use Rattle.locale.specs.Locale.{locale_words}
-use borrow.Author.Rules.{rules}
 use Rattle.locale.proofs.put_locale.Goals as goal
 
 pub returns-then-is_new : goal.returns-then-is_new

@@ -3,7 +3,6 @@ use native.Mathlib.Omega.{arith}
 use Rattle.subtag.proofs.Copying.{copy_copy}
 use Rattle.locale.specs.Locale.{new_words}
 use Rattle.locale.proofs.Counts.{few, parts_new}
-use borrow.Author.Rules.{rules}
 use Rattle.locale.proofs.put_new.Goals as goal
 
 pub overflow_add-result : goal.overflow_add-result

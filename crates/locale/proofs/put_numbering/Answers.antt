@@ -1,6 +1,5 @@
 -- The numbering system stands behind its sign, where it begins. Assumes nothing.
 use mathlib.Core.Path.{sym, ◌∙◌}
-use borrow.Author.Rules.{rules}
 use Rattle.buffer.specs.Ascii.{ascii}
 use Rattle.subtag.specs.Subtag.{subtag_of}
 use Rattle.locale.proofs.Behind.{behind_there, behind_none}

@@ -5,7 +5,6 @@ use mathlib.Core.Path.{ap}
 use Rattle.locale.specs.Locale.{region}
 use Rattle.locale.specs.Subtags.{region_in}
 use Rattle.locale.proofs.Behind.{behind_there, behind_none}
-use borrow.Author.Rules.{rules}
 use Rattle.locale.proofs.put_own_region.Goals as goal
 
 pub returns-then-locale-eq0 : goal.returns-then-locale-eq0

@@ -1,8 +1,7 @@
 -- The locale is put where it is said. Assumes nothing.
 use mathlib.Core.Path.{refl}
-use borrow.Author.Tests.{eq-eqb, ne_eqb}
+use borrow.Author.Tests.{eq-eqb}
 use Rattle.buffer.proofs.Putting.{put_nil}
-use borrow.Author.Rules.{rules}
 use Rattle.locale.proofs.put_said.Goals as goal
 
 pub returns-then-r-eq0 : goal.returns-then-r-eq0

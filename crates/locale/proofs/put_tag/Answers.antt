@@ -2,7 +2,6 @@
 use native.Mathlib.Omega.{arith}
 use Rattle.subtag.proofs.Copying.{put_copy, copy_copy}
 use Rattle.locale.proofs.Counts.{few}
-use borrow.Author.Rules.{rules}
 use Rattle.locale.proofs.put_tag.Goals as goal
 
 pub overflow_add-result : goal.overflow_add-result

@@ -1,5 +1,4 @@
 -- The words are put where they fit, else the call is refused. Assumes nothing.
-use borrow.Author.Rules.{rules}
 use Rattle.subtag.proofs.Copying.{copy_short, copy_written}
 use Rattle.locale.proofs.write_locale.Goals as goal
 

@@ -1,12 +1,7 @@
 -- The loop passes the words that agree. Assumes nothing.
-use Prim.Native.Nat.{◌+◌, ◌*◌, ◌-◌, ◌≤◌}
-use mathlib.Core.Path.{sym, ◌∙◌}
-use native.Mathlib.Omega.{arith}
-use lib.ListN.{drop, length-drop}
-use borrow.Author.Rules.{rules}
-use Rattle.record.specs.Table.{Bytes}
+use Prim.Native.Nat.{◌*◌, ◌-◌, ◌≤◌}
+use lib.ListN.{drop}
 use Rattle.order_at.specs.Apart.{AgreeFrom}
-use Rattle.order_at.proofs.Alike.{drop_bytes, word_alike, alike_more}
 use Rattle.order_at.proofs.first_apart.Given as goal
 
 abbrev pub invariant-loop-f : goal.invariant-loop-f

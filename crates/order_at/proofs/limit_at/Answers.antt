@@ -1,7 +1,6 @@
 -- A record is whole where as many bytes are left as it takes, and is read to the lesser of T and 64. Assumes nothing.
 use native.Mathlib.Omega.{arith}
 use lib.ListN.{length-drop}
-use borrow.Author.Rules.{rules}
 use Rattle.order_at.proofs.Limits.{none_read, whole_read}
 use Rattle.order_at.proofs.limit_at.Goals as goal
 

@@ -3,8 +3,6 @@ use Prim.Native.Nat.{◌%◌, min}
 use mathlib.Core.Path.{◌≡◌}
 use native.Mathlib.Omega.{arith}
 use lib.ListN.{drop}
-use borrow.Author.Rules.{rules}
-use borrow.Author.Tests.{eqb-true}
 use Rattle.order_at.proofs.Alike.{alike_more}
 use Rattle.order_at.proofs.Decides.{less_decides, greater_decides, alike_decides}
 use Rattle.order_at.proofs.order_at.Goals as goal

@@ -2,7 +2,6 @@
 use mathlib.Core.Path.{ap, ◌∙◌}
 use mathlib.Core.List.{List}
 use Prim.Native.Nat.{ℕ}
-use borrow.Author.Rules.{rules}
 use Rattle.laws.proofs.Lists.{rest_from}
 use Rattle.reading.specs.Reading.{ParseOutcome, parse_of}
 use Rattle.order_at.specs.OrderAt.{plain_at}

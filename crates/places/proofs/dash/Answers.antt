@@ -1,7 +1,6 @@
 -- The dash stands behind something. Assumes nothing.
-use borrow.Author.Tests.{lt-ltb, le-ltb}
+use borrow.Author.Tests.{le-ltb}
 use Rattle.buffer.proofs.Putting.{put_nil}
-use borrow.Author.Rules.{rules}
 use Rattle.places.proofs.dash.Goals as goal
 
 pub returns-else-at-gt0 : goal.returns-else-at-gt0

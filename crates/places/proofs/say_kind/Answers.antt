@@ -1,6 +1,5 @@
 -- The dash, and then the words. Assumes nothing.
 use Rattle.buffer.proofs.Putting.{put_put}
-use borrow.Author.Rules.{rules}
 use Rattle.places.proofs.say_kind.Goals as goal
 
 pub returns : goal.returns

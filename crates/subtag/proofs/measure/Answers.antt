@@ -1,6 +1,5 @@
 -- `measure` tells a front's length before and after. Assumes nothing.
-use borrow.Author.Rules.{rules}
-use Rattle.subtag.proofs.Room.{measured_well, measured_ill}
+use Rattle.subtag.proofs.Room.{measured_well}
 use Rattle.subtag.proofs.measure.Goals as goal
 
 pub returns-in-WellFormed : goal.returns-in-WellFormed

@@ -1,8 +1,7 @@
 -- `put_front` puts what the front becomes. Assumes nothing.
 use mathlib.Core.Path.{sym}
-use borrow.Author.Rules.{rules}
 use lib.Seq.{length-take-le}
-use Rattle.subtag.proofs.Laws.{well_in, fronted_well, fronted_ill}
+use Rattle.subtag.proofs.Laws.{well_in}
 use Rattle.subtag.proofs.put_front.Goals as goal
 
 pub slice_bounds-put-end : goal.slice_bounds-put-end

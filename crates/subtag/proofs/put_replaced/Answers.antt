@@ -1,11 +1,7 @@
 -- `put_replaced` puts front after front. The invariant: what is still to be put completes the source. Assumes nothing.
-use Prim.Native.Nat.{◌-◌, ◌≤◌}
-use mathlib.Core.Path.{◌≡◌}
 use native.Mathlib.Omega.{arith}
 use borrow.Author.Rules.{rules}
-use lib.ListN.{length, length-drop}
-use Rattle.laws.proofs.Lists.{rest_is}
-use Rattle.subtag.proofs.Laws.{Completes, completes_none, completes_more, completes_all, moves}
+use Rattle.subtag.proofs.Laws.{completes_more, completes_all, moves}
 use Rattle.subtag.proofs.Low.{completes_low}
 use Rattle.subtag.proofs.put_replaced.Goals as goal
 

@@ -1,7 +1,4 @@
 -- `put_subtag` puts what is left without the NULs at the end. Assumes nothing.
-use mathlib.Core.Path.{sym}
-use borrow.Author.Rules.{rules}
-use lib.Seq.{length-take-le}
 use Rattle.subtag.proofs.Counts.{count_trimmed}
 use Rattle.subtag.proofs.Strip.{subtag_is}
 use Rattle.subtag.proofs.put_subtag.Goals as goal

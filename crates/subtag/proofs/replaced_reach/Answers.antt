@@ -1,12 +1,6 @@
 -- The invariant: the rest stops, behind the fronts that have room, where all stops. Assumes nothing.
-use Prim.Native.Nat.{◌-◌, ◌≤◌}
-use mathlib.Core.Path.{◌≡◌, refl, sym, ◌∙◌}
+use mathlib.Core.Path.{sym, ◌∙◌}
 use native.Mathlib.Omega.{arith}
-use borrow.Author.Rules.{rules}
-use lib.ListN.{length, drop, length-drop}
-use Rattle.laws.proofs.Lists.{rest_is}
-use Rattle.buffer.specs.Put.{reach}
-use Rattle.subtag.specs.Subtag.{replaced}
 use Rattle.subtag.proofs.Room.{measured_low, front_in, reach_more, reach_none, reach_end}
 use Rattle.subtag.proofs.replaced_reach.Goals as goal
 

@@ -1,13 +1,9 @@
 -- The invariant: the rest stops, behind the fronts that have room, where all stops. Assumes nothing.
 use Prim.Native.Nat.{◌-◌, ◌≤◌}
-use mathlib.Core.Path.{◌≡◌, refl, sym, ◌∙◌}
-use native.Mathlib.Omega.{arith}
-use borrow.Author.Rules.{rules}
-use lib.ListN.{length, drop, length-drop}
-use Rattle.laws.proofs.Lists.{rest_is}
+use mathlib.Core.Path.{◌≡◌}
+use lib.ListN.{length, drop}
 use Rattle.buffer.specs.Put.{reach}
 use Rattle.subtag.specs.Subtag.{replaced}
-use Rattle.subtag.proofs.Room.{measured_low, front_in, reach_more, reach_none, reach_end}
 use Rattle.subtag.proofs.replaced_reach.Given as goal
 
 abbrev pub invariant-loop-i : goal.invariant-loop-i

@@ -1,7 +1,4 @@
 -- The trimmed source, replaced, is the subtag. Assumes nothing.
-use mathlib.Core.Path.{sym}
-use borrow.Author.Rules.{rules}
-use lib.Seq.{length-take-le}
 use Rattle.subtag.proofs.Strip.{subtag_is}
 use Rattle.subtag.proofs.subtag_reach.Goals as goal
 

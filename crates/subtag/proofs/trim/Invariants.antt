@@ -1,14 +1,8 @@
 -- `trim` stops at the last byte that is no NUL. Assumes nothing.
-use Rattle.subtag.proofs.Nuls.{one_less, stays, ended}
 use Rattle.subtag.specs.Subtag.{drop_nuls}
-use lib.Seq.{take-length}
 use lib.ListN.{length, take}
-use mathlib.Core.Path.{◌≡◌, sym, ap, ◌∙◌}
-use borrow.Author.Rules.{rules}
-use native.Mathlib.Omega.{arith}
-use Prim.Native.Nat.{◌≤◌, ◌-◌}
-use Rattle.subtag.proofs.trim.Reads as reads
-use Rattle.subtag.proofs.trim.Lts as lts
+use mathlib.Core.Path.{◌≡◌}
+use Prim.Native.Nat.{◌≤◌}
 use Rattle.subtag.proofs.trim.Given as goal
 
 abbrev pub invariant-loop-n : goal.invariant-loop-n

@@ -1,5 +1,4 @@
 -- The subtag is put where it fits, else the call is refused. Assumes nothing.
-use borrow.Author.Rules.{rules}
 use Rattle.buffer.proofs.Putting.{reach_within, reach_past}
 use Rattle.subtag.proofs.Copying.{copy_short, copy_written}
 use Rattle.subtag.proofs.write_subtag.Goals as goal

@@ -1,7 +1,6 @@
 -- Five groups make the whole. Assumes nothing.
 use Rattle.sheet.proofs.Bits.{whole}
 use Rattle.sheet.specs.Sheet.{said_of}
-use borrow.Author.Rules.{rules}
 use Rattle.sheet.proofs.said.said.Goals as goal
 
 pub returns : goal.returns

@@ -3,14 +3,13 @@ use Rattle.sheet.proofs.Bits.{bits4}
 use native.Mathlib.Omega.{arith}
 use Rattle.places.specs.Places.{places_of}
 use Rattle.sheet.specs.Sheet.{said_of}
-use borrow.Author.Rules.{rules}
 use Rattle.sheet.proofs.said.said_from_0.Goals as goal
 
 pub returns : goal.returns
 unfolding said_of places_of
 returns c = (
-      bits4 (rw c.get_mcc_mnc-codes.ensures at c.some_bit-a.ensures.0)
-          (rw c.get_mcc_mnc-codes.ensures at c.some_bit-b.ensures.0) c.some_bit-c.ensures.0
-          (rw (c.from.ensures, c.get_grammatical_inflection-gender.ensures) at c.kind_bit-d.ensures.0),
-      omega arith,
-    )
+  bits4 (rw c.get_mcc_mnc-codes.ensures at c.some_bit-a.ensures.0)
+      (rw c.get_mcc_mnc-codes.ensures at c.some_bit-b.ensures.0) c.some_bit-c.ensures.0
+      (rw (c.from.ensures, c.get_grammatical_inflection-gender.ensures) at c.kind_bit-d.ensures.0),
+  omega arith,
+)

@@ -1,7 +1,6 @@
 -- `ok_at` tests one byte. Assumes nothing.
 use Rattle.subtag.specs.Utf8.{ok_at}
 use borrow.Author.Tests.{lt-ltb, le-ltb, le-leb, lt-leb}
-use borrow.Author.Rules.{rules}
 use Rattle.subtag.proofs.utf8.ok_at.Goals as goal
 
 pub returns-then-b-hi : goal.returns-then-b-hi
