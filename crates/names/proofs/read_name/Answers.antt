@@ -29,16 +29,16 @@ returns-then-not-may c = c.refused_parse-then-not-may.ensures
 
 pub offset_bounds-values-slot : goal.offset_bounds-values-slot
 offset_bounds-values-slot c = omega (
-      arith,
-      found_slot c.loop-values.next _ c.recognise-found.ensures (sym c.may.ensures ∙ c.if-not-may.false),
-    )
+  arith,
+  found_slot c.loop-values.next _ c.recognise-found.ensures (sym c.may.ensures ∙ c.if-not-may.false),
+)
 
 pub bounds-values-slot : goal.bounds-values-slot
 bounds-values-slot c = omega (
-      arith,
-      c.loop-values.invariant.1,
-      found_slot c.loop-values.next _ c.recognise-found.ensures (sym c.may.ensures ∙ c.if-not-may.false),
-    )
+  arith,
+  c.loop-values.invariant.1,
+  found_slot c.loop-values.next _ c.recognise-found.ensures (sym c.may.ensures ∙ c.if-not-may.false),
+)
 
 pub returns-then-end-name : goal.returns-then-end-name
 returns-then-end-name c = c.named-then-end-name.ensures
@@ -48,14 +48,14 @@ returns-then-end-name c = c.named-then-end-name.ensures
 
 pub overflow_add-next : goal.overflow_add-next
 overflow_add-next c = omega (
-      arith,
-      found_slot c.loop-values.next _ c.recognise-found.ensures (sym c.may.ensures ∙ c.if-not-may.false),
-    )
+  arith,
+  found_slot c.loop-values.next _ c.recognise-found.ensures (sym c.may.ensures ∙ c.if-not-may.false),
+)
 
 pub loop-values-preserved : goal.loop-values-preserved
 loop-values-preserved c = let e = within c.args.name.now c.loop-values.at _ c.loop-values.invariant.0 c.next_at-end.ensures in (
-      omega (arith, c.if-end-name.false, e),
-      length-set c.loop-values.values _ _ ∙ c.loop-values.invariant.1,
-      goes_on c.args.name.now c.loop-values.values c.loop-values.next c.loop-values.at _ _ c.loop-values.invariant.2 c.loop-values.invariant.0 c.next_at-end.ensures c.recognise-found.ensures
-          (omega (arith, c.if-end-name.false, e)) (sym c.may.ensures ∙ c.if-not-may.false),
-    )
+  omega (arith, c.if-end-name.false, e),
+  length-set c.loop-values.values _ _ ∙ c.loop-values.invariant.1,
+  goes_on c.args.name.now c.loop-values.values c.loop-values.next c.loop-values.at _ _ c.loop-values.invariant.2 c.loop-values.invariant.0 c.next_at-end.ensures c.recognise-found.ensures
+      (omega (arith, c.if-end-name.false, e)) (sym c.may.ensures ∙ c.if-not-may.false),
+)

@@ -1,11 +1,10 @@
 -- The places in a row. Assumes nothing.
 use Rattle.places.proofs.Laws.{says_more}
 use Rattle.places.specs.Places.{places_of}
-use borrow.Author.Rules.{rules}
 use Rattle.places_first.proofs.places_from_0.Goals as goal
 
 pub returns-clause-says : goal.returns-clause-says
 unfolding places_of
 returns-clause-says c = says_more (rw c.get_mcc_mnc-codes.ensures at c.label_place-a.ensures)
-          (says_more (rw c.get_mcc_mnc-codes.ensures at c.label_place-b.ensures)
-          (says_more c.locale_place-locale.ensures.says (rw c.get_grammatical_inflection-gender.ensures at c.grammatical_gender_place.ensures)))
+    (says_more (rw c.get_mcc_mnc-codes.ensures at c.label_place-b.ensures)
+    (says_more c.locale_place-locale.ensures.says (rw c.get_grammatical_inflection-gender.ensures at c.grammatical_gender_place.ensures)))

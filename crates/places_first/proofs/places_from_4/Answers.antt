@@ -1,7 +1,6 @@
 -- The places in a row. Assumes nothing.
 use Rattle.places.proofs.Laws.{says_more}
 use Rattle.places.specs.Places.{places_of}
-use borrow.Author.Rules.{rules}
 use Rattle.places_first.proofs.places_from_4.Goals as goal
 
 pub returns : goal.returns

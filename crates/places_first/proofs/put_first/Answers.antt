@@ -1,5 +1,4 @@
 -- Four groups, from an empty text on. Assumes nothing.
-use Rattle.buffer.proofs.Putting.{put_same}
 use Rattle.places.proofs.Laws.{says_both, said_all}
 use Rattle.places.specs.Places.{places_of}
 use Rattle.places_first.proofs.put_first.Goals as goal

@@ -1,7 +1,6 @@
 -- A kind is put where it is said. Assumes nothing.
 use mathlib.Core.Path.{sym, ◌∙◌}
 use Rattle.places.proofs.Laws.{dashed_said, place_silent}
-use borrow.Author.Rules.{rules}
 use Rattle.places_first.proofs.kind_places.screen_long_place.Goals as goal
 
 pub returns-then-screen_long_said : goal.returns-then-screen_long_said

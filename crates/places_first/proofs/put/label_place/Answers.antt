@@ -1,6 +1,5 @@
 -- The words are put where the number is not 0. Assumes nothing.
 use Rattle.places.proofs.Laws.{place_said, place_silent, some_said, none_said}
-use borrow.Author.Rules.{rules}
 use Rattle.places_first.proofs.put.label_place.Goals as goal
 
 pub returns-then-n-eq0 : goal.returns-then-n-eq0

@@ -1,8 +1,5 @@
 -- The words are put and counted where the first language byte is not 0. Assumes nothing.
-use mathlib.Core.Path.{refl}
-use borrow.Author.Tests.{eq-eqb, ne_eqb}
 use Rattle.places.proofs.Laws.{place_said, place_silent, some_said, none_said}
-use borrow.Author.Rules.{rules}
 use Rattle.places_first.proofs.put.locale_place.Goals as goal
 
 pub returns-then-r-eq0-clause-says : goal.returns-then-r-eq0-clause-says

@@ -15,7 +15,7 @@ returns-then-r-eq0-clause-result_value c = rw c.if-r-eq0.true
 pub returns-clause-result_value : goal.returns-clause-result_value
 unfolding places_of
 returns-clause-result_value c = adds_both _ _ (dp_adds (ascii "w") (c.args.r.screen_size_dp % 65536) (rw c.get_screen_width_height_dp-dp.ensures at c.number_cost.ensures.value))
-          (dp_adds (ascii "h") (c.args.r.screen_size_dp / 65536) (rw c.get_screen_width_height_dp-dp.ensures at c.number_cost-2.ensures.value))
+    (dp_adds (ascii "h") (c.args.r.screen_size_dp / 65536) (rw c.get_screen_width_height_dp-dp.ensures at c.number_cost-2.ensures.value))
 
 pub returns-clause-upper_bound : goal.returns-clause-upper_bound
 unfolding places_of

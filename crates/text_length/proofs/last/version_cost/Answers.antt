@@ -23,7 +23,7 @@ returns-clause-result_value c = let sdk = decimal (c.args.r.version % 65536) in
     let minor = c.args.r.version / 65536 in
     let major = rw c.get_sdk_minor_version-version.ensures at c.digits.ensures.value in
     let dot = rw c.get_sdk_minor_version-version.ensures at c.number_cost.ensures.value in said_adds (version_place c.args.r) (some_said _ c.if-r-eq0.false)
-          (omega (arith, major, dot ∙ sym (minor_long minor), length-append (ascii "v" ++ sdk) (minor_words minor)))
+    (omega (arith, major, dot ∙ sym (minor_long minor), length-append (ascii "v" ++ sdk) (minor_words minor)))
 
 pub returns-clause-upper_bound : goal.returns-clause-upper_bound
 unfolding places_of

@@ -1,0 +1,7 @@
+-- The walk's offset. Assumes nothing.
+use mathlib.Core.Path.{ap}
+use Rattle.runs.specs.declared.RunEnd.{RunEnd}
+use Rattle.test_probe_chunks.proofs.probe_chunk_end.Goals as goal
+
+pub returns : goal.returns
+returns c = ap (λ (e : RunEnd). e.offset) c.walk_chunks-end.ensures

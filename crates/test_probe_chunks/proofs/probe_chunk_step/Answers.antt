@@ -1,0 +1,10 @@
+-- What the step shows. Assumes nothing.
+use Rattle.test_probe_chunks.proofs.Answers.{shows}
+use borrow.Author.Rules.{rules}
+use Rattle.test_probe_chunks.proofs.probe_chunk_step.Goals as goal
+
+pub returns-clause-value : goal.returns-clause-value
+returns-clause-value c = (shows c.chunk_step_at.result _ _ _ _ c.chunk_step_at.ensures (c.shown.ensures.value, c.shown.ensures.out_after)).0
+
+pub returns-clause-out_after : goal.returns-clause-out_after
+returns-clause-out_after c = (shows c.chunk_step_at.result _ _ _ _ c.chunk_step_at.ensures (c.shown.ensures.value, c.shown.ensures.out_after)).1
