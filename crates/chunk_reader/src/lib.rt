@@ -10,7 +10,7 @@ use record::Age;
 use runs::Stepped;
 
 // A reader of a run of chunks: the lent bytes, the offset where it stands, and the age at which it reads.
-#[derive(Drop)]
+#[derive(Clone, Copy)]
 pub struct ChunkReader<'a> {
     pub bytes: &'a [u8],
     pub offset: usize,

@@ -8,7 +8,7 @@ use record::Age;
 use runs::{Stepped, step_at};
 
 // A reader of a run: the lent bytes, the offset where it stands, and the age at which it reads.
-#[derive(Drop)]
+#[derive(Clone, Copy)]
 pub struct RunReader<'a> {
     pub bytes: &'a [u8],
     pub offset: usize,

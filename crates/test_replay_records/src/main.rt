@@ -24,7 +24,7 @@ fn filled(input: &mut impl Read, buffer: &mut [u8], length: usize) -> io::Result
 }
 
 // Writes the line of an answer that ends at an offset of its buffer.
-fn say(rt: &impl Print, answer: &[u8], end: usize, line: &mut [u8]) -> io::Result<()> {
+fn said(rt: &impl Print, answer: &[u8], end: usize, line: &mut [u8]) -> io::Result<()> {
     let n = test_frames::front(end, answer);
     let end = test_frames::line(&answer[..n], line);
     let n = test_frames::front(end, line);
@@ -50,7 +50,7 @@ fn turn(
     }
     let n = test_frames::front(length, payload);
     let end = records::answer(tag, &payload[..n], answer);
-    say(rt, answer, end, line)?;
+    said(rt, answer, end, line)?;
     Ok(true)
 }
 
