@@ -9,10 +9,10 @@ use lib.Dec.{T, eqb}
 use borrow.Author.Tests.{eqb-false}
 use Rattle.laws.proofs.Choice.{cond_not}
 use Rattle.answers.specs.declared.Refusal.{Refusal}
-use Rattle.answers.specs.declared.Taken.{Taken}
+use Rattle.std.specs.Prelude.{Result, Ok, Err}
 use Rattle.answers.specs.declared.Told.{Told}
 use Rattle.answers.specs.Numbers.{number_of}
-use Rattle.answers.specs.Tells.{success, refusal, taken_tells}
+use Rattle.answers.specs.Tells.{success, refusal, told_of}
 use Rattle.answers.specs.Demand1.{Condition, NoneOf, FirstOf, Exactly}
 use Rattle.answers.proofs.OneToOne.{number_pos, told_one}
 
@@ -22,9 +22,9 @@ by_row [] refuse give = give
 by_row (c ∷ row) refuse give = cond c.holds (refuse c.why) (by_row row refuse give)
 
 -- what is given by the answer of a call that takes bytes
-abbrev pub by_answer : {A : Type 0} → (Refusal → A) → (ℕ → A) → Taken → A
-by_answer refuse give (Taken.Took n) = give n
-by_answer refuse give (Taken.Refused why) = refuse why
+abbrev pub by_answer : {A : Type 0} → (Refusal → A) → (ℕ → A) → Result ℕ Refusal → A
+by_answer refuse give (Ok n) = give n
+by_answer refuse give (Err why) = refuse why
 
 -- o is what comes of a row
 pub record Goes {A : Type 0} (row : List Condition) (refuse : Refusal → A) (give : A) (o : A) : Type 0 where
@@ -119,21 +119,21 @@ module _ (row : List Condition) (n : ℕ) where
   pub refused_first : (why : Refusal) → ToldBy (refusal why) → FirstOf why row
   refused_first why e = row_refused (λ (t : Told). t) refusal (success n) (λ why. refl) refl why row (sym e)
 
-  pub answered : {A : Type 0} (refuse : Refusal → A) (give : ℕ → A) (r : Taken) → ToldBy (taken_tells r) → by_row row refuse (give n) ≡ by_answer refuse give r
-  answered refuse give (Taken.Took m) e = let t = took_none m e in row_none refuse (give n) row t.1 ∙ ap give (sym t.0)
-  answered refuse give (Taken.Refused why) e = row_first refuse (give n) why row (refused_first why e)
+  pub answered : {A : Type 0} (refuse : Refusal → A) (give : ℕ → A) (r : Result ℕ Refusal) → ToldBy (told_of r) → by_row row refuse (give n) ≡ by_answer refuse give r
+  answered refuse give (Ok m) e = let t = took_none m e in row_none refuse (give n) row t.1 ∙ ap give (sym t.0)
+  answered refuse give (Err why) e = row_first refuse (give n) why row (refused_first why e)
 
 -- a call that takes bytes by a row has an answer
 pub record Answering (row : List Condition) (n : ℕ) : Type 0 where
-  pub answer : Taken
-  pub told : taken_tells answer ≡ by_row row refusal (success n)
+  pub answer : Result ℕ Refusal
+  pub told : told_of answer ≡ by_row row refusal (success n)
 
 answer_by : (b : Bool) (why : Refusal) {row : List Condition} {n : ℕ} → Answering row n → Answering (record { holds = b; why = why } ∷ row) n
-answer_by true why later = record { answer = Taken.Refused why; told = refl }
+answer_by true why later = record { answer = Err why; told = refl }
 answer_by false why later = record { answer = later.answer; told = later.told }
 
 pub answering : (row : List Condition) (n : ℕ) → Answering row n
-answering [] n = record { answer = Taken.Took n; told = refl }
+answering [] n = record { answer = Ok n; told = refl }
 answering (c ∷ row) n = answer_by c.holds c.why (answering row n)
 
 -- what is said of a call is said of each way that it goes

@@ -1,3 +1,4 @@
 pub mod OneOutcome
 pub mod OneToOne
+pub mod Passed
 pub mod Exactly

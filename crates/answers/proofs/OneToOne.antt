@@ -1,15 +1,16 @@
 -- What an answer tells fixes the answer: two answers that tell the same are one. Assumes nothing.
 use Prim.Native.Nat.{ℕ, zero, suc, ◌<◌, ◌≤◌}
-use mathlib.Core.Path.{◌≡◌, refl, sym, ap, ◌∙◌}
+use mathlib.Core.Path.{◌≡◌, refl, sym, ap, ap₂, ◌∙◌}
 use mathlib.Core.List.{List, [], ◌∷◌}
 use lib.Dec.{lit<, lit≤}
 use lib.ListN.{get_or}
 use Rattle.answers.specs.declared.Refusal.{Refusal}
-use Rattle.answers.specs.declared.Taken.{Taken}
+use Rattle.std.specs.Prelude.{Result, Ok, Err}
 use Rattle.answers.specs.declared.Told.{Told}
-use Rattle.answers.specs.declared.Written.{Written}
+use Rattle.answers.specs.declared.Counted.{Counted}
+use Rattle.answers.specs.Counted.{counted_with, written_by, replacements_by}
 use Rattle.answers.specs.Numbers.{carried_by, number_of}
-use Rattle.answers.specs.Tells.{success, refusal, taken_tells, written_tells}
+use Rattle.answers.specs.Tells.{success, refusal, tells, told_of}
 
 -- what has a way back is one-to-one
 pub one_to_one : {A B : Type 0} (f : A → B) (back : B → A) → ((a : A) → back (f a) ≡ a) → (a b : A) → f a ≡ f b → a ≡ b
@@ -66,13 +67,9 @@ pub tells_one : {A : Type 0} (tells : A → Told) (ok : ℕ → A) (bad : Refusa
     → ((a : A) → back ok bad (tells a) ≡ a) → (a b : A) → tells a ≡ tells b → a ≡ b
 tells_one tells ok bad there = one_to_one tells (back ok bad) there
 
-taken_back : (a : Taken) → back Taken.Took Taken.Refused (taken_tells a) ≡ a
-taken_back (Taken.Took n) = ok_back Taken.Took Taken.Refused n
-taken_back (Taken.Refused why) = refused_back Taken.Took Taken.Refused why
-
-written_back : (a : Written) → back Written.Wrote Written.Refused (written_tells a) ≡ a
-written_back (Written.Wrote n) = ok_back Written.Wrote Written.Refused n
-written_back (Written.Refused why) = refused_back Written.Wrote Written.Refused why
+answer_back : (a : Result ℕ Refusal) → back Ok Err (told_of a) ≡ a
+answer_back (Ok n) = ok_back Ok Err n
+answer_back (Err why) = refused_back Ok Err why
 
 -- the numbers are 1 to 12
 numbers_are : (why : Refusal) → (0 < number_of why) × (number_of why ≤ 12)
@@ -108,10 +105,21 @@ told_one = tells_one refusal (λ m. Refusal.TooFewBytes) (λ why. why) (refused_
 pub number_one : (a b : Refusal) → number_of a ≡ number_of b → carried_by a ≡ carried_by b → a ≡ b
 number_one a b p q = told_one a b (told_same p q)
 
--- two answers of calls that take bytes, telling the same, are one
-pub taken_one : (a b : Taken) → taken_tells a ≡ taken_tells b → a ≡ b
-taken_one = tells_one taken_tells Taken.Took Taken.Refused taken_back
+-- an answer with replacements is what it says of the bytes, with those replacements
+counted_back : (a : Result Counted Refusal) → counted_with (replacements_by a) (written_by a) ≡ a
+counted_back (Ok counted) = refl
+counted_back (Err why) = refl
 
--- two answers of calls that write, telling the same, are one
-pub written_one : (a b : Written) → written_tells a ≡ written_tells b → a ≡ b
-written_one = tells_one written_tells Written.Wrote Written.Refused written_back
+-- what it tells is what it says of the bytes
+pub counted_tells : (a : Result Counted Refusal) → tells (λ (counted : Counted). counted.length) a ≡ told_of (written_by a)
+counted_tells (Ok counted) = refl
+counted_tells (Err why) = refl
+
+-- two answers that tell the same are one
+pub answer_one : (a b : Result ℕ Refusal) → told_of a ≡ told_of b → a ≡ b
+answer_one = tells_one told_of Ok Err answer_back
+
+-- and so are two with replacements
+pub counted_one : (a b : Result Counted Refusal) → told_of (written_by a) ≡ told_of (written_by b) → replacements_by a ≡ replacements_by b → a ≡ b
+counted_one a b p q =
+    sym (counted_back a) ∙ ap₂ counted_with q (answer_one (written_by a) (written_by b) p) ∙ counted_back b

@@ -1,9 +1,7 @@
 -- What each case of an answer tells in 01's numbers. Assumes nothing.
-use Rattle.std.specs.Prelude.{ℕ, ◌+◌, ◌*◌, ◌%◌, cond, eqb}
+use Rattle.std.specs.Prelude.{ℕ, ◌+◌, ◌*◌, ◌%◌, cond, eqb, Option, None, Some, Result, Ok, Err}
 use Rattle.answers.specs.declared.Refusal.{Refusal}
 use Rattle.answers.specs.declared.Told.{Told}
-use Rattle.answers.specs.declared.Taken.{Taken}
-use Rattle.answers.specs.declared.Written.{Written}
 use Rattle.answers.specs.Numbers.{carried_by, number_of}
 
 -- a success: 0, and an amount: the bytes taken or written, or what the definition for the answer says
@@ -14,15 +12,19 @@ success amount = record { number = 0; amount = amount; carried = 0 }
 abbrev pub refusal : Refusal → Told
 refusal why = record { number = number_of why; amount = 0; carried = carried_by why }
 
--- what the answer of a call that takes bytes tells
-abbrev pub taken_tells : Taken → Told
-taken_tells (Taken.Took n) = success n
-taken_tells (Taken.Refused why) = refusal why
+-- what an answer tells, where what a call gives is seen as an amount
+abbrev pub tells : {A : Type 0} → (A → ℕ) → Result A Refusal → Told
+tells amount (Ok given) = success (amount given)
+tells amount (Err why) = refusal why
 
--- what the answer of a call that writes tells
-abbrev pub written_tells : Written → Told
-written_tells (Written.Wrote n) = success n
-written_tells (Written.Refused why) = refusal why
+-- what the answer of a call tells that gives its amount: the bytes taken or written, or what it counts
+abbrev pub told_of : Result ℕ Refusal → Told
+told_of answer = tells (λ n. n) answer
+
+-- the amount that tells of a place that was looked for: 1 + the place, and 0 where there is none
+abbrev pub amount_found : Option ℕ → ℕ
+amount_found (Some place) = 1 + place
+amount_found None = 0
 
 -- the amount of a success, or what a refusal carries
 abbrev pub low_of : Told → ℕ

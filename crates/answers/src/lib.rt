@@ -1,9 +1,9 @@
 #![tactic(auto)]
 // What every call of the library answers: a success with its amount, or a refusal with 01's number.
-ghost use Rattle.std.specs.Prelude.{◌≡◌};
+ghost use Rattle.std.specs.Prelude.{◌≡◌, ℕ, cond};
 ghost use Rattle.answers.specs.Counted.{counted_with};
 ghost use Rattle.answers.specs.Numbers.{carried_by, number_of};
-ghost use Rattle.answers.specs.Tells.{packed_of, refusal, success, taken_tells, written_tells};
+ghost use Rattle.answers.specs.Tells.{amount_found, packed_of, refusal, success, tells};
 
 // Why a call is refused.
 #[derive(Clone, Copy)]
@@ -43,25 +43,73 @@ pub struct Told {
     pub carried: usize,
 }
 
-// The answer of a call that takes bytes from the front of what it is given.
-#[derive(Clone, Copy)]
-pub enum Taken {
-    Took(usize),
-    Refused(Refusal),
-}
-
-// The answer of a call that writes into a lent buffer.
-#[derive(Clone, Copy)]
-pub enum Written {
-    Wrote(usize),
-    Refused(Refusal),
-}
-
-// The answer of a call that writes a text, and how many replacements the text has. A refused call made none.
+// What the success of a call that writes a text gives: how many bytes it wrote, and how many replacements the text has.
 #[derive(Clone, Copy)]
 pub struct Counted {
-    pub answer: Written,
+    pub length: usize,
     pub replacements: usize,
+}
+
+impl Counted {
+    // The answer of a call whose text has so many replacements. A refused call made none.
+    pub fn of(answer: Result<usize, Refusal>, replacements: usize) -> Result<Self, Refusal>
+        ensures { result ≡ counted_with replacements answer }
+    {
+        answer.map(|length| Self {
+            length,
+            replacements,
+        })
+    }
+}
+
+// What a call gives, seen as the amount that its success tells.
+pub trait Amount {
+    ghost amount_of: { Self → ℕ };
+
+    fn amount(self) -> usize
+        ensures { result ≡ amount_of self };
+}
+
+impl Amount for usize {
+    ghost amount_of = { λ n. n };
+
+    fn amount(self) -> usize {
+        self
+    }
+}
+
+impl Amount for u32 {
+    ghost amount_of = { λ n. n };
+
+    fn amount(self) -> usize {
+        self as usize
+    }
+}
+
+// A yes is 1.
+impl Amount for bool {
+    ghost amount_of = { λ yes. cond yes 1 0 };
+
+    fn amount(self) -> usize {
+        usize::from(self)
+    }
+}
+
+// A place that was looked for is told from 1 on, and 0 tells that there is none.
+impl Amount for Option<u32> {
+    ghost amount_of = { amount_found };
+
+    fn amount(self) -> usize {
+        self.map_or(0, |place| 1 + place as usize)
+    }
+}
+
+impl Amount for Counted {
+    ghost amount_of = { λ counted. counted.length };
+
+    fn amount(self) -> usize {
+        self.length
+    }
 }
 
 impl Refusal {
@@ -141,41 +189,14 @@ impl Told {
     }
 }
 
-impl Taken {
-    // What the answer tells in 01's numbers.
-    pub fn told(self) -> Told
-        ensures { result ≡ taken_tells self }
-    {
-        match self {
-            Self::Took(amount) => Told::success(amount),
-            Self::Refused(why) => why.told(),
-        }
-    }
-}
+// What an answer tells in 01's numbers.
+impl<A: Amount + Drop> From<Result<A, Refusal>> for Told {
+    ghost from_gives = { λ answer told. told ≡ tells A.amount_of answer };
 
-impl Written {
-    // What the answer tells in 01's numbers.
-    pub fn told(self) -> Told
-        ensures { result ≡ written_tells self }
-    {
-        match self {
-            Self::Wrote(amount) => Told::success(amount),
-            Self::Refused(why) => why.told(),
-        }
-    }
-    // The answer of a call whose text has so many replacements.
-    pub fn counted(self, replacements: usize) -> Counted
-        ensures { result ≡ counted_with replacements self }
-    {
-        match self {
-            Self::Wrote(amount) => Counted {
-                answer: Self::Wrote(amount),
-                replacements,
-            },
-            Self::Refused(why) => Counted {
-                answer: Self::Refused(why),
-                replacements: 0,
-            },
+    fn from(answer: Result<A, Refusal>) -> Told {
+        match answer {
+            Ok(given) => Told::success(given.amount()),
+            Err(why) => why.told(),
         }
     }
 }

@@ -1,12 +1,13 @@
 -- Bytes that are put the last one first. Assumes nothing.
-use Prim.Native.Nat.{ℕ, zero, suc, ◌+◌, ◌-◌, ◌/◌, ◌%◌, ◌≤◌, ◌<◌}
-use mathlib.Core.Path.{◌≡◌, refl, sym, ap, ◌∙◌}
+use Prim.Native.Nat.{ℕ, zero, suc, ◌+◌, ◌/◌, ◌%◌, ◌≤◌, ◌<◌, min}
+use mathlib.Core.Path.{◌≡◌, refl, ap, ◌∙◌}
 use mathlib.Core.List.{List, [], ◌∷◌, ◌++◌}
+use native.Mathlib.Decide.{dec_le}
 use native.Mathlib.Omega.{arith}
 use lib.ListN.{length, set}
 use Rattle.buffer.specs.Decimal.{decimal}
 use Rattle.buffer.specs.Put.{put_at, Put}
-use Rattle.buffer.proofs.Digits.{decimal_one, decimal_more, decimal_more_length}
+use Rattle.buffer.proofs.Digits.{decimal_one, decimal_more, decimal_more_length, decimal_one_length, decimal_some}
 use Rattle.buffer.proofs.Putting.{reach_fits, reach_full}
 
 -- two bytes at different offsets, in either order
@@ -26,21 +27,43 @@ put_last o at (c ∷ u) b =
     ∙ ap (λ (l : List ℕ). put_at l (suc at) u) (rw e (set_later o at (at + suc (length u)) c b (omega arith)))
 
 -- the last digit of a number, put before those in front of it
-pub digit_last : (o : List ℕ) (at n i : ℕ) {new : List ℕ} {r : ℕ} → 10 ≤ n → i ≡ at + length (decimal n) → Put o (i - 1) ((48 + n % 10) ∷ []) new r
-    → (i - 1 ≡ at + length (decimal (n / 10))) × (put_at new at (decimal (n / 10)) ≡ put_at o at (decimal n))
+pub digit_last : (o : List ℕ) (at n j : ℕ) {new : List ℕ} {r : ℕ} → 10 ≤ n → j + 1 ≡ at + length (decimal n) → Put o j ((48 + n % 10) ∷ []) new r
+    → (j ≡ at + length (decimal (n / 10))) × (put_at new at (decimal (n / 10)) ≡ put_at o at (decimal n))
 unfolding put_at
-digit_last o at n i h e p =
-    let k : i - 1 ≡ at + length (decimal (n / 10)) = omega (arith, e, decimal_more_length n h) in
+digit_last o at n j h e p =
+    let k : j ≡ at + length (decimal (n / 10)) = omega (arith, e, decimal_more_length n h) in
     (k, rw (decimal_more n h, put_last o at (decimal (n / 10)) (48 + n % 10), ← k, ← p.holds))
 
 -- its only one
 pub digit_one : {o : List ℕ} {at n : ℕ} {new : List ℕ} {r : ℕ} → n < 10 → Put o at ((48 + n) ∷ []) new r → new ≡ put_at o at (decimal n)
 digit_one {o} {at} {n} h p = rw (decimal_one n h) p.holds
 
--- a writer that has put all bytes stops behind them, or at the buffer's end
-pub put_within : {o : List ℕ} {at : ℕ} {w : List ℕ} {n : List ℕ} {r : ℕ} → n ≡ put_at o at w → at + length w ≤ length o → r ≡ at + length w → Put o at w n r
-put_within {o} {at} {w} e h k = record { ends = k ∙ sym (reach_fits (length o) at w h); holds = e }
+-- of a number's digits that are put backwards, those up to offset i are left, which make the buffer whole: all of n's, or none
+abbrev pub DigitsLeft : List ℕ → ℕ → ℕ → ℕ → List ℕ → Type 0
+DigitsLeft o at n i whole = (at < i → (i ≡ at + length (decimal n)) × (put_at o at (decimal n) ≡ whole)) × (i ≤ at → o ≡ whole)
 
-pub put_to_end : {o : List ℕ} {at : ℕ} {w : List ℕ} {n : List ℕ} {r : ℕ}
-    → n ≡ put_at o at w → at ≤ length o → length o ≤ at + length w → r ≡ length o → Put o at w n r
-put_to_end {o} {at} {w} e h k m = record { ends = m ∙ sym (reach_full (length o) at w h k); holds = e }
+-- one more of them is put
+pub digit_put : {o : List ℕ} {at : ℕ} (n : ℕ) {j i : ℕ} {whole : List ℕ} {new : List ℕ} {r : ℕ}
+    → at ≤ j → j + 1 ≡ i → DigitsLeft o at n i whole → Put o j ((48 + n % 10) ∷ []) new r → DigitsLeft new at (n / 10) j whole
+digit_put {o} {at} n {j} {i} h e d p =
+    let w = d.0 (omega arith) in
+    elim (dec_le 10 n) [
+      | yes m ↦
+          let l = digit_last o at n j m (e ∙ w.0) p in
+          (λ g. (l.0, l.1 ∙ w.1), λ g. absurd (omega (arith, l.0, decimal_some (n / 10))))
+      | no m ↦
+          let a : j ≡ at = omega (arith, w.0, decimal_one_length n (omega arith)) in
+          let b : n % 10 ≡ n = omega arith in
+          (λ g. absurd (omega arith), λ g. digit_one (omega arith) (rw (a, b) at p) ∙ w.1)
+    ]
+
+-- a writer that has put all bytes stops behind them, or at the buffer's end
+pub put_within : {o : List ℕ} {at : ℕ} {w : List ℕ} {n : List ℕ} {r : ℕ} → n ≡ put_at o at w → at ≤ length o → r ≡ min (at + length w) (length o) → Put o at w n r
+put_within {o} {at} {w} e h k = record {
+  ends =
+      elim (dec_le (at + length w) (length o)) [
+        | yes m ↦ omega (arith, k, reach_fits (length o) at w m)
+        | no m ↦ omega (arith, k, reach_full (length o) at w h (omega arith))
+      ];
+  holds = e;
+}

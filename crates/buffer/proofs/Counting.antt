@@ -7,7 +7,7 @@ use native.Mathlib.Omega.{arith}
 use lib.Dec.{eqb}
 use borrow.Author.Tests.{ne_eqb}
 use Rattle.answers.specs.declared.Refusal.{Refusal}
-use Rattle.answers.specs.declared.Written.{Written}
+use Rattle.std.specs.Prelude.{Result, Ok, Err}
 use Rattle.answers.specs.Counted.{counted_with}
 use Rattle.answers.specs.Numbers.{number_of}
 use Rattle.answers.proofs.OneToOne.{number_pos}
@@ -19,8 +19,8 @@ pub refused_none : (why : Refusal) (n : ℕ) → cond (eqb (number_of why) 0) n 
 refused_none why n = rw (ne_eqb (number_of why) 0 (λ e. omega (arith, number_pos why)))
 
 -- what goes along with an answer that was given
-pub answer_counted : (n : ℕ) (answer : Written) {new : List ℕ} {o : Outcome}
+pub answer_counted : (n : ℕ) (answer : Result ℕ Refusal) {new : List ℕ} {o : Outcome}
     → outcome answer new ≡ o → counted_outcome (counted_with n answer) new ≡ counting n o
-answer_counted n (Written.Wrote m) e = ap (counting n) e
-answer_counted n (Written.Refused why) {new} e =
+answer_counted n (Ok m) e = ap (counting n) e
+answer_counted n (Err why) {new} e =
     ap (λ (k : ℕ). record { does = refused why new; replacements = k }) (sym (refused_none why n)) ∙ ap (counting n) e

@@ -1,12 +1,12 @@
 -- Laws of `decimal`. Assumes nothing.
-use Prim.Native.Nat.{ℕ, zero, suc, ◌+◌, ◌/◌, ◌%◌, ◌≤◌, ◌<◌, ◌^◌}
+use Prim.Native.Nat.{ℕ, zero, suc, ◌+◌, ◌*◌, ◌/◌, ◌%◌, ◌≤◌, ◌<◌, ◌^◌, max}
 use mathlib.Core.Path.{◌≡◌, refl, ap, ◌∙◌}
 use mathlib.Core.List.{List, [], ◌∷◌, ◌++◌}
 use mathlib.Core.Bool.{cond, Bool, true, false}
 use native.Mathlib.Omega.{arith}
 use lib.Dec.{ltb, lit<}
 use native.Mathlib.Decide.{dec_lt}
-use native.Mathlib.Nat.{div-lt_iff_lt-mul, pow-suc}
+use native.Mathlib.Nat.{div-lt_iff_lt-mul, one-le-pow, pow-suc}
 use lib.ListN.{length, length-append}
 use borrow.Author.Tests.{lt-ltb, le-ltb, ltb-false}
 use Rattle.buffer.specs.Decimal.{digits, decimal}
@@ -51,4 +51,33 @@ decimal_long (suc k) n h =
     elim (dec_lt n 10) [
       | yes l ↦ omega (arith, decimal_one_length n l)
       | no l ↦ omega (arith, decimal_more_length n (omega arith), decimal_long k (n / 10) ((div-lt_iff_lt-mul (lit< tt)).1 (rw pow-suc at h)))
+    ]
+
+-- every number has a digit
+pub decimal_some : (n : ℕ) → 1 ≤ length (decimal n)
+decimal_some n =
+    elim (dec_lt n 10) [
+      | yes l ↦ omega (arith, decimal_one_length n l)
+      | no l ↦ omega (arith, decimal_more_length n (omega arith))
+    ]
+
+-- of the powers of ten, only the first is below two
+powers_one : (k : ℕ) → 10 ^ k ≤ 1 → k ≡ 0
+powers_one zero h = refl
+powers_one (suc k) h = let p : 1 ≤ 10 ^ k = one-le-pow k 10 (lit< tt) in let g : 10 ^ k * 10 ≤ 1 = rw pow-suc at h in absurd (omega arith)
+
+-- a number from ten to the k on has more than k digits
+pub decimal_wide : (k n : ℕ) → 10 ^ k ≤ n → suc k ≤ length (decimal n)
+decimal_wide zero n h = decimal_some n
+decimal_wide (suc k) n h =
+    let g : 10 ^ k * 10 ≤ n = rw pow-suc at h in
+    let p : 1 ≤ 10 ^ k = one-le-pow k 10 (lit< tt) in
+    omega (arith, decimal_more_length n (omega arith), decimal_wide k (n / 10) (omega arith))
+
+-- so the digits go by the power of ten that is reached; 0 has as many as 1
+pub decimal_power : (k n : ℕ) {m : ℕ} → m ≡ max n 1 → 10 ^ k ≤ m → m < 10 * 10 ^ k → k + 1 ≡ length (decimal n)
+decimal_power k n e h g =
+    elim (dec_lt n 1) [
+      | yes l ↦ let z : k ≡ 0 = powers_one k (omega arith) in omega (arith, z, decimal_one_length n (omega arith))
+      | no l ↦ omega (arith, decimal_wide k n (omega arith), decimal_long k n (rw pow-suc (omega arith)))
     ]

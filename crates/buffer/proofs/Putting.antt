@@ -1,13 +1,15 @@
 -- Laws of `Put`: a writer after a writer puts the appended words, with no room asked; with room, what stands there. Assumes nothing.
-use Prim.Native.Nat.{ℕ, suc, ◌+◌, ◌≤◌, ◌<◌}
+use Prim.Native.Nat.{ℕ, suc, ◌+◌, ◌-◌, ◌≤◌, ◌<◌, min}
 use mathlib.Core.Path.{◌≡◌, refl, sym, ap, ◌∙◌}
 use mathlib.Core.List.{List, [], ◌∷◌, ◌++◌}
 use native.Mathlib.Omega.{arith}
-use native.Mathlib.Decide.{dec_lt}
+use native.Mathlib.Decide.{dec_le, dec_lt}
 use native.Mathlib.Nat.{zero-add}
 use lib.ListN.{length, set, take, drop, get_or, length-set}
 use lib.Seq.{sets, sets-eq, set_out, take_at, take-suc, take_all}
 use borrow.Author.Tests.{lt-ltb, le-ltb}
+use borrow.Rule.Slice.PartMut.{put_mid}
+use Rattle.std.proofs.lemmas.List.{append_assoc, take-append-drop, length-take-le, drop_all, drop-drop}
 use Rattle.buffer.specs.Put.{put_at, reach, Put}
 
 -- past the end nothing is put, and a writer stops at once
@@ -122,6 +124,29 @@ put_ends {o} {at} {w} p h = p.ends ∙ reach_fits (length o) at w h
 pub put_is : {o : List ℕ} {at : ℕ} {w : List ℕ} {n : List ℕ} {r : ℕ} → Put o at w n r → at + length w ≤ length o → n ≡ take at o ++ w ++ drop (at + length w) o
 put_is {o} {at} {w} p h = p.holds ∙ put_sets o at w ∙ sets-eq w o at h
 
+-- where there is no room, all words are alike
+pub put_past : {o : List ℕ} {at : ℕ} {u : List ℕ} (v : List ℕ) {n : List ℕ} {r : ℕ} → length o ≤ at → Put o at u n r → Put o at v n r
+put_past {o} {at} {u} v h p = record {
+  ends = p.ends ∙ reach_over (length o) at u h ∙ sym (reach_over (length o) at v h);
+  holds = p.holds ∙ put_over o at u h ∙ sym (put_over o at v h);
+}
+
+-- the k bytes of w that there is room for, put in one go
+pub put_part : {o : List ℕ} {at : ℕ} (w : List ℕ) {v : List ℕ} {k n : ℕ}
+    → at < length o → k ≡ min (length w) (length o - at) → v ≡ take k w → n ≡ k → Put o at w (put_mid at n o v) (at + k)
+put_part {o} {at} w {v} {k} {n} h e f g =
+    let l : length v ≡ k = rw f (length-take-le k w (omega arith)) in
+    let p : Put o at v (put_mid at n o v) (at + k) = record {
+      ends = sym (reach_fits (length o) at v (omega arith) ∙ ap (λ (m : ℕ). at + m) l);
+      holds = rw (put_sets o at v, sets-eq v o at (omega arith), append_assoc, l, g, drop-drop);
+    } in
+    let q : Put (put_mid at n o v) (at + k) (drop k w) (put_mid at n o v) (at + k) =
+    elim (dec_le (length w) k) [
+      | yes m ↦ rw (drop_all k w m) put_nil
+      | no m ↦ put_past _ (omega (arith, put_same p)) put_nil
+    ] in
+    rw (← take-append-drop k w, ← f) (put_put p q)
+
 -- the same at the front of a buffer
 pub front_ends : {o : List ℕ} {w : List ℕ} {n : List ℕ} {r : ℕ} → Put o 0 w n r → length w ≤ length o → r ≡ length w
 front_ends {o} {w} p h = omega (arith, put_ends p (omega arith))
@@ -131,13 +156,6 @@ front_is {o} {w} p h = simp zero-add at (put_is p (omega arith))
 
 pub front_take : {o : List ℕ} {w : List ℕ} {n : List ℕ} {r : ℕ} → Put o 0 w n r → length w ≤ length o → take r n ≡ w
 front_take {o} {w} {n} {r} p h = rw (front_is p h) (take_at w (drop (length w) o) r (sym (front_ends p h)))
-
--- where there is no room, all words are alike
-pub put_past : {o : List ℕ} {at : ℕ} {u : List ℕ} (v : List ℕ) {n : List ℕ} {r : ℕ} → length o ≤ at → Put o at u n r → Put o at v n r
-put_past {o} {at} {u} v h p = record {
-  ends = p.ends ∙ reach_over (length o) at u h ∙ sym (reach_over (length o) at v h);
-  holds = p.holds ∙ put_over o at u h ∙ sym (put_over o at v h);
-}
 
 reach_least : (n at : ℕ) (w : List ℕ) → at ≤ reach n at w
 unfolding reach

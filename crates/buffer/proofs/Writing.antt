@@ -5,7 +5,7 @@ use mathlib.Core.List.{List}
 use lib.ListN.{length}
 use borrow.Author.Tests.{le-leb, lt-leb}
 use Rattle.answers.specs.declared.Refusal.{Refusal}
-use Rattle.answers.specs.declared.Written.{Written}
+use Rattle.std.specs.Prelude.{Result, Ok, Err}
 use Rattle.buffer.specs.Put.{Put}
 use Rattle.buffer.specs.Written.{outcome, written, wrote, refused}
 use Rattle.buffer.proofs.Putting.{front_is}
@@ -21,5 +21,5 @@ written_short w old h = rw lt-leb
 
 -- a writer that put w to the front of a buffer that holds it
 pub put_written : {old : List ℕ} {w : List ℕ} {new : List ℕ} {r : ℕ}
-    → length w ≤ length old → Put old 0 w new r → outcome (Written.Wrote (length w)) new ≡ written w old
+    → length w ≤ length old → Put old 0 w new r → outcome (Ok (length w)) new ≡ written w old
 put_written {old} {w} h p = rw (written_fits w old h, front_is p h)

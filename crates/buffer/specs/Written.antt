@@ -1,9 +1,8 @@
 -- The one outcome of every call that writes into a lent buffer (01, "Numbers given back"). Assumes nothing.
-use Rattle.std.specs.Prelude.{ℕ, List, ◌++◌, cond, leb, length, drop}
+use Rattle.std.specs.Prelude.{ℕ, List, ◌++◌, cond, leb, length, drop, Result}
 use Rattle.answers.specs.declared.Refusal.{Refusal}
 use Rattle.answers.specs.declared.Told.{Told}
-use Rattle.answers.specs.declared.Written.{Written}
-use Rattle.answers.specs.Tells.{success, refusal, written_tells}
+use Rattle.answers.specs.Tells.{success, refusal, told_of}
 
 -- what a call comes to: what it tells, and the lent bytes that it leaves
 pub record Outcome : Type 0 where
@@ -11,8 +10,8 @@ pub record Outcome : Type 0 where
   pub leaves : List ℕ
 
 -- what an answer and a buffer come to
-abbrev pub outcome : Written → List ℕ → Outcome
-outcome answer buffer = record { tells = written_tells answer; leaves = buffer }
+abbrev pub outcome : Result ℕ Refusal → List ℕ → Outcome
+outcome answer buffer = record { tells = told_of answer; leaves = buffer }
 
 -- a refusal gives its number and zero bytes written, and no lent byte changes
 abbrev pub refused : Refusal → List ℕ → Outcome

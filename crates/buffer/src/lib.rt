@@ -9,7 +9,7 @@ ghost use Rattle.buffer.specs.Decimal.{decimal};
 ghost use Rattle.buffer.specs.Put.{Put};
 ghost use Rattle.buffer.specs.Written.{outcome, written};
 
-use answers::{Refusal, Written};
+use answers::Refusal;
 
 // Puts the byte b where there is room.
 pub fn put_byte(b: u8, at: usize, out: &mut [u8]) -> usize
@@ -27,26 +27,19 @@ pub fn put_byte(b: u8, at: usize, out: &mut [u8]) -> usize
 pub fn put(bytes: &[u8], at: usize, out: &mut [u8]) -> usize
     ensures { Put out.old at bytes.now out.new result }
 {
-    let mut o = at;
-    let mut j = 0;
-    while j < bytes.len() {
-        o = put_byte(bytes[j], o, out);
-        j += 1;
+    if out.len() <= at {
+        return at;
     }
-    o
+    let n = bytes.len().min(out.len() - at);
+    out[at..at + n].copy_from_slice(&bytes[..n]);
+    at + n
 }
 
 // How many digits n has in decimal.
 pub fn decimal_length(n: u64) -> usize
     ensures { result ≡ length (decimal n) }
 {
-    let mut left = n;
-    let mut digits = 1;
-    while 10 <= left {
-        left /= 10;
-        digits += 1;
-    }
-    digits
+    n.max(1).ilog10() as usize + 1
 }
 
 // Puts n in decimal, the last digit first: each stands at its final place.
@@ -58,14 +51,11 @@ pub fn put_decimal(n: u64, at: usize, out: &mut [u8]) -> usize
     }
     let end = at + decimal_length(n);
     let mut left = n;
-    let mut o = end;
-    while 10 <= left {
-        o -= 1;
+    for o in (at..end).rev() {
         put_byte(48 + (left % 10) as u8, o, out);
         left /= 10;
     }
-    put_byte(48 + left as u8, at, out);
-    if end < out.len() { end } else { out.len() }
+    end.min(out.len())
 }
 
 // Puts fixed words and then n in decimal.
@@ -85,14 +75,14 @@ pub fn put_between(front: &[u8], n: u64, back: &[u8], at: usize, out: &mut [u8])
 }
 
 // Writes bytes to the front of out; where out is shorter, it is left as it is.
-pub fn write(bytes: &[u8], out: &mut [u8]) -> Written
+pub fn write(bytes: &[u8], out: &mut [u8]) -> Result<usize, Refusal>
     ensures { outcome result out.new ≡ written bytes.now out.old }
 {
     let n = bytes.len();
     if n <= out.len() {
         put(bytes, 0, out);
-        Written::Wrote(n)
+        Ok(n)
     } else {
-        Written::Refused(Refusal::ShortBuffer)
+        Err(Refusal::ShortBuffer)
     }
 }

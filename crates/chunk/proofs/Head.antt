@@ -8,9 +8,9 @@ use lib.Dec.{ltb}
 use lib.ListN.{length, length-append}
 use borrow.Author.Tests.{ltb-false, lt-ltb, le-ltb, eq-eqb, ne_eqb}
 use Rattle.answers.specs.declared.Refusal.{Refusal}
-use Rattle.answers.specs.declared.Taken.{Taken}
+use Rattle.std.specs.Prelude.{Result, Ok, Err}
 use Rattle.answers.specs.Demand1.{Condition}
-use Rattle.answers.specs.Tells.{success, refusal, taken_tells}
+use Rattle.answers.specs.Tells.{success, refusal, told_of}
 use Rattle.answers.proofs.Exactly.{Goes, none_left, one_more, row_none, by_answer, answered, took_none, Answering, answering, row_map}
 use Rattle.laws.proofs.Lists.{part_long}
 use Rattle.laws.proofs.Tests.{or_neither}
@@ -80,7 +80,7 @@ module _ {A : Type 0} (s : List ℕ) (refuse : Refusal → A) (give : A) where
       head_stands h = past ∙ rw (← h)
 
 -- an answer of a call that goes by a head alone, and gives n where it stands
-module _ (s : List ℕ) (n : ℕ) (answer : Taken) (told : taken_tells answer ≡ if_head s refusal (success n)) where
+module _ (s : List ℕ) (n : ℕ) (answer : Result ℕ Refusal) (told : told_of answer ≡ if_head s refusal (success n)) where
   abbrev Row : List Condition
   Row = fewer_than20 s ∷ other_type s ∷ sizes_wrong s ∷ []
 
@@ -88,9 +88,9 @@ module _ (s : List ℕ) (n : ℕ) (answer : Taken) (told : taken_tells answer �
   pub head_way : {A : Type 0} (refuse : Refusal → A) (give : A) → if_head s refuse give ≡ by_answer refuse (λ m. give) answer
   head_way refuse give = (head_row s none_left).by ∙ answered Row n refuse (λ m. give) answer (told ∙ (head_row s none_left).by)
 
-  pub head_says : (m : ℕ) → answer ≡ Taken.Took m → (m ≡ n) × Sized s
+  pub head_says : (m : ℕ) → answer ≡ Ok m → (m ≡ n) × Sized s
   head_says m e =
-      let t = took_none Row n m (ap taken_tells (sym e) ∙ told ∙ (head_row s none_left).by) in
+      let t = took_none Row n m (ap told_of (sym e) ∙ told ∙ (head_row s none_left).by) in
       (t.0, sized s t.1.1.1.0)
 
 -- the answer of `header_end`: where the header ends, which is inside the bytes, and the record's part of it
@@ -100,7 +100,7 @@ pub record InHeader (s : List ℕ) (m : ℕ) : Type 0 where
   pub long : 20 ≤ length s
   pub holds : part s 20 (m - 20) ≡ record_part s
 
-pub in_header : (s : List ℕ) (answer : Taken) → taken_tells answer ≡ if_head s refusal (success (header_size s)) → (m : ℕ) → answer ≡ Taken.Took m → InHeader s m
+pub in_header : (s : List ℕ) (answer : Result ℕ Refusal) → told_of answer ≡ if_head s refusal (success (header_size s)) → (m : ℕ) → answer ≡ Ok m → InHeader s m
 in_header s answer told m e =
     let h = head_says s (header_size s) answer told m e in
     let is = h.0 in
@@ -113,15 +113,15 @@ in_header s answer told m e =
     }
 
 -- an answer of `take_chunk`
-module _ (s : List ℕ) (answer : Taken) (told : taken_tells answer ≡ chunk_take s) where
+module _ (s : List ℕ) (answer : Result ℕ Refusal) (told : told_of answer ≡ chunk_take s) where
   -- so goes every other call on that chunk
   pub chunk_way : {A : Type 0} (refuse : Refusal → A) (give : ℕ → A) → if_chunk s refuse (give (chunk_size s)) ≡ by_answer refuse give answer
   chunk_way refuse give =
       (chunk_row s none_left).by ∙ answered (chunk_first s []) (chunk_size s) refuse give answer (told ∙ (chunk_row s none_left).by)
 
-  pub chunk_says : (m : ℕ) → answer ≡ Taken.Took m → (m ≡ chunk_size s) × Sized s × (taken (record_part s) ≤ length (record_part s))
+  pub chunk_says : (m : ℕ) → answer ≡ Ok m → (m ≡ chunk_size s) × Sized s × (taken (record_part s) ≤ length (record_part s))
   chunk_says m e =
-      let t = took_none (chunk_first s []) (chunk_size s) m (ap taken_tells (sym e) ∙ told ∙ (chunk_row s none_left).by) in
+      let t = took_none (chunk_first s []) (chunk_size s) m (ap told_of (sym e) ∙ told ∙ (chunk_row s none_left).by) in
       let row = t.1 in
       let last = row.1.1.1 in (
         t.0,
@@ -130,20 +130,20 @@ module _ (s : List ℕ) (answer : Taken) (told : taken_tells answer ≡ chunk_ta
       )
 
   -- and every call by its head alone gives
-  pub chunk_headed : (m : ℕ) → answer ≡ Taken.Took m → {A : Type 0} (refuse : Refusal → A) (give : A) → if_head s refuse give ≡ give
+  pub chunk_headed : (m : ℕ) → answer ≡ Ok m → {A : Type 0} (refuse : Refusal → A) (give : A) → if_head s refuse give ≡ give
   chunk_headed m e refuse give =
-      let row = (took_none (chunk_first s []) (chunk_size s) m (ap taken_tells (sym e) ∙ told ∙ (chunk_row s none_left).by)).1 in
+      let row = (took_none (chunk_first s []) (chunk_size s) m (ap told_of (sym e) ∙ told ∙ (chunk_row s none_left).by)).1 in
       (head_row s none_left).by ∙ row_none refuse give (fewer_than20 s ∷ other_type s ∷ sizes_wrong s ∷ []) (row.0, (row.1.0, (row.1.1.0, tt)))
 
   -- it has its twenty bytes
-  pub chunk_long : (m : ℕ) → answer ≡ Taken.Took m → 20 ≤ length s
+  pub chunk_long : (m : ℕ) → answer ≡ Ok m → 20 ≤ length s
   chunk_long m e = let z = (chunk_says m e).1 in omega (arith, z.least, z.header, z.chunk)
 
 -- there is one for every chunk
 pub chunk_answer : (s : List ℕ) → Answering (chunk_first s []) (chunk_size s)
 chunk_answer s = answering (chunk_first s []) (chunk_size s)
 
-pub chunk_told : (s : List ℕ) → taken_tells (chunk_answer s).answer ≡ chunk_take s
+pub chunk_told : (s : List ℕ) → told_of (chunk_answer s).answer ≡ chunk_take s
 chunk_told s = (chunk_answer s).told ∙ sym (chunk_row s none_left).by
 
 -- what is said of a call on a chunk is said of each way that it goes

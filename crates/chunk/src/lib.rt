@@ -1,17 +1,17 @@
 #![tactic(auto)]
 // One resource type chunk: its head, and the record within its header. Its entries aren't read.
 ghost use Rattle.std.specs.Prelude.{◌≡◌, ◌+◌, ◌<◌, ◌≤◌, ◌||◌, ltb, length};
-ghost use Rattle.answers.specs.Tells.{refusal, success, taken_tells};
+ghost use Rattle.answers.specs.Tells.{refusal, success, told_of};
 ghost use Rattle.buffer.specs.Counted.{counted_outcome};
 ghost use Rattle.buffer.specs.Written.{outcome};
-ghost use Rattle.reading.specs.Reading.{parsed_outcome};
+ghost use Rattle.reading.specs.Reading.{if_age, parsed_outcome};
 ghost use Rattle.record.specs.Table.{le, part};
 ghost use Rattle.chunk.specs.Chunk.{chunk_counted, chunk_marks, chunk_parse, chunk_size, chunk_take, head_outcome, header_size, if_head};
 
-use answers::{Counted, Refusal, Taken, Written};
+use answers::{Counted, Refusal};
 use buffer::put;
 use marking::marks;
-use reading::{Parsed, parse_aged, refused_parse, take};
+use reading::{Parsed, lesser, read_to, take};
 use record::Age;
 use text::aged_text;
 
@@ -58,94 +58,78 @@ fn wrong_sizes(header: usize, size: usize, n: usize) -> bool
 }
 
 // Where the header ends of the chunk whose head stands at the front of bytes.
-fn header_end(bytes: &[u8]) -> Taken
-    ensures { taken_tells result ≡ if_head bytes.now refusal (success (header_size bytes.now)) }
+fn header_end(bytes: &[u8]) -> Result<usize, Refusal>
+    ensures { told_of result ≡ if_head bytes.now refusal (success (header_size bytes.now)) }
 {
     if bytes.len() < RECORD_AT {
-        return Taken::Refused(Refusal::TooFewBytes);
+        return Err(Refusal::TooFewBytes);
     }
     if half(bytes, 0) != 0x0201 {
-        return Taken::Refused(Refusal::WrongType);
+        return Err(Refusal::WrongType);
     }
     let header = half(bytes, 2);
     if wrong_sizes(header, chunk_size(bytes), bytes.len()) {
-        return Taken::Refused(Refusal::WrongSizes);
+        return Err(Refusal::WrongSizes);
     }
-    Taken::Took(header)
+    Ok(header)
+}
+
+// The same for a reader of an age.
+fn aged_header_end(bytes: &[u8], age: Age) -> Result<usize, Refusal>
+    ensures { told_of result ≡ if_age age.0 refusal (if_head bytes.now refusal (success (header_size bytes.now))) }
+{
+    age.end()?;
+    header_end(bytes)
 }
 
 // How far it is from the chunk at the front of bytes to the next one.
-pub fn take_chunk(bytes: &[u8]) -> Taken
-    ensures { taken_tells result ≡ chunk_take bytes.now }
+pub fn take_chunk(bytes: &[u8]) -> Result<usize, Refusal>
+    ensures { told_of result ≡ chunk_take bytes.now }
 {
-    match header_end(bytes) {
-        Taken::Refused(why) => Taken::Refused(why),
-        Taken::Took(header) => match take(&bytes[RECORD_AT..header]) {
-            Taken::Refused(why) => Taken::Refused(why),
-            Taken::Took(_) => Taken::Took(chunk_size(bytes)),
-        },
-    }
+    let header = header_end(bytes)?;
+    take(&bytes[RECORD_AT..header])?;
+    Ok(chunk_size(bytes))
 }
 
 // Writes what is shown of the head of the chunk at the front of bytes: id, flags, entry count and entries start as they are stored.
-pub fn chunk_head(bytes: &[u8], out: &mut [u8]) -> Written
+pub fn chunk_head(bytes: &[u8], out: &mut [u8]) -> Result<usize, Refusal>
     ensures { outcome result out.new ≡ head_outcome bytes.now out.old }
 {
-    match take_chunk(bytes) {
-        Taken::Refused(why) => Written::Refused(why),
-        Taken::Took(_) => {
-            if out.len() < SHOWN {
-                return Written::Refused(Refusal::ShortBuffer);
-            }
-            let at = put(&bytes[8..10], 0, out);
-            put(&bytes[12..RECORD_AT], at, out);
-            Written::Wrote(SHOWN)
-        }
+    take_chunk(bytes)?;
+    if out.len() < SHOWN {
+        return Err(Refusal::ShortBuffer);
     }
+    let at = put(&bytes[8..10], 0, out);
+    put(&bytes[12..RECORD_AT], at, out);
+    Ok(SHOWN)
 }
 
 // Parses the record of the chunk at the front of bytes for a reader of an age. What is taken is the chunk.
-pub fn parse_chunk(bytes: &[u8], age: Age) -> Parsed
+pub fn parse_chunk(bytes: &[u8], age: Age) -> Result<Parsed, Refusal>
     ensures { parsed_outcome result ≡ chunk_parse age.0 bytes.now }
 {
-    if !age.is_age() {
-        return refused_parse(Refusal::NotAnAge);
-    }
-    match take_chunk(bytes) {
-        Taken::Refused(why) => refused_parse(why),
-        Taken::Took(size) => {
-            let parsed = parse_aged(&bytes[RECORD_AT..half(bytes, 2)], age);
-            let record = parsed.record;
-            Parsed {
-                answer: Taken::Took(size),
-                record,
-            }
-        }
-    }
+    let end = age.end()?;
+    let header = header_end(bytes)?;
+    let part = &bytes[RECORD_AT..header];
+    let taken = take(part)?;
+    Ok(Parsed {
+        taken: chunk_size(bytes),
+        record: read_to(part, lesser(taken, end)),
+    })
 }
 
 // Writes the text of the record of the chunk at the front of bytes for a reader of an age.
-pub fn chunk_text(bytes: &[u8], age: Age, out: &mut [u8]) -> Counted
+pub fn chunk_text(bytes: &[u8], age: Age, out: &mut [u8]) -> Result<Counted, Refusal>
     ensures { counted_outcome result out.new ≡ chunk_counted age.0 bytes.now out.old }
 {
-    if !age.is_age() {
-        return Written::Refused(Refusal::NotAnAge).counted(0);
-    }
-    match header_end(bytes) {
-        Taken::Refused(why) => Written::Refused(why).counted(0),
-        Taken::Took(header) => aged_text(&bytes[RECORD_AT..header], age, out),
-    }
+    let header = aged_header_end(bytes, age)?;
+    aged_text(&bytes[RECORD_AT..header], age, out)
 }
 
 // Writes the fourteen marks of the record of the chunk at the front of bytes for a reader of an age.
-pub fn chunk_marks(bytes: &[u8], age: Age, out: &mut [u8]) -> Written
+pub fn chunk_marks(bytes: &[u8], age: Age, out: &mut [u8]) -> Result<usize, Refusal>
     ensures { outcome result out.new ≡ chunk_marks age.0 bytes.now out.old }
 {
-    if !age.is_age() {
-        return Written::Refused(Refusal::NotAnAge);
-    }
-    match header_end(bytes) {
-        Taken::Refused(why) => Written::Refused(why),
-        Taken::Took(header) => marks(&bytes[RECORD_AT..header], age, out),
-    }
+    let header = aged_header_end(bytes, age)?;
+    marks(&bytes[RECORD_AT..header], age, out)
 }

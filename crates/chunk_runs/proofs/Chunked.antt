@@ -16,7 +16,7 @@ use Rattle.record.specs.Table.{Bytes, le}
 use Rattle.record.proofs.Bytes.{each_byte}
 use Rattle.reading.specs.Reading.{taken, if_age}
 use Rattle.reading.proofs.Whole.{whole_took}
-use Rattle.runs.specs.declared.Front.{Front}
+use Rattle.std.specs.Prelude.{Result, Ok, Err}
 use Rattle.runs.specs.Runs.{record_front, step_of}
 use Rattle.runs.proofs.Along.{Run, Steps, stands_at, unknown, finds_one}
 use Rattle.runs.proofs.Records.{record_run, record_steps}
@@ -42,8 +42,8 @@ module _ {r c : List ℕ} (of : ChunkOf r c) where
   -- whatever stands behind them
   module _ (w : List ℕ) where
     -- the record stands at the front of what begins with it
-    record_stands : record_front (r ++ w) ≡ Front.Takes (length r)
-    record_stands = whole_took (r ++ w) _ _ (both_whole r w there) ∙ ap Front.Takes (same_taken r w there ∙ of.whole)
+    record_stands : record_front (r ++ w) ≡ Ok (length r)
+    record_stands = whole_took (r ++ w) _ _ (both_whole r w there) ∙ ap Ok (same_taken r w there ∙ of.whole)
 
     -- the sizes are the same
     same_header : header_size (c ++ w) ≡ header_size c
@@ -72,9 +72,9 @@ module _ {r c : List ℕ} (of : ChunkOf r c) where
         (ap le (part_front c w 0 2 (omega (arith, long))) ∙ of.type) (sym sizes_right)
 
     -- the chunk stands at the front of what begins with it
-    chunk_stands : chunk_front (c ++ w) ≡ Front.Takes (length c)
+    chunk_stands : chunk_front (c ++ w) ≡ Ok (length c)
     chunk_stands =
-        headed _ _ ∙ whole_took (record_part (c ++ w)) _ _ (rw same_holds (both_whole r of.more there)) ∙ ap Front.Takes same_size
+        headed _ _ ∙ whole_took (record_part (c ++ w)) _ _ (rw same_holds (both_whole r of.more there)) ∙ ap Ok same_size
 
     -- a call at an age that goes by its head is the call on its record
     by_record : {A : Type 0} (a : ℕ) (refuse : Refusal → A) (give : A) → if_age a refuse (if_head (c ++ w) refuse (if_age a refuse give)) ≡ if_age a refuse give
@@ -92,8 +92,8 @@ both_same l m =
     }
 
 -- two readers of one age, each where something stands that they read alike
-module _ {s t : List ℕ} {run : Run s} {other : Run t} {a : ℕ} (x : Steps run a) (y : Steps other a) (q p m n : ℕ) (here : run.front q ≡ Front.Takes m)
-    (there : other.front p ≡ Front.Takes n) (alike : x.read q ≡ y.read p) where
+module _ {s t : List ℕ} {run : Run s} {other : Run t} {a : ℕ} (x : Steps run a) (y : Steps other a) (q p m n : ℕ) (here : run.front q ≡ Ok m)
+    (there : other.front p ≡ Ok n) (alike : x.read q ≡ y.read p) where
   same_step : ((x.step q).tells ≡ (y.step p).tells) × ((x.step q).gives ≡ (y.step p).gives)
   same_step = by (is_age a) refl where
     by : (b : Bool) → b ≡ is_age a → ((x.step q).tells ≡ (y.step p).tells) × ((x.step q).gives ≡ (y.step p).gives)

@@ -5,13 +5,13 @@ use mathlib.Core.Bool.{true}
 use mathlib.Core.List.{List}
 use native.Mathlib.Omega.{arith}
 use lib.ListN.{length, drop, get_or}
-use Rattle.answers.specs.declared.Taken.{Taken}
-use Rattle.answers.specs.Tells.{success, taken_tells}
+use Rattle.std.specs.Prelude.{Result, Ok, Err}
+use Rattle.answers.specs.declared.Refusal.{Refusal}
+use Rattle.answers.specs.Tells.{success, told_of}
 use Rattle.record.specs.Ages.{is_age}
 use Rattle.reading.specs.declared.Parsed.{Parsed}
 use Rattle.reading.specs.Reading.{ParseOutcome, parsed_outcome, taken, aged}
 use Rattle.runs.specs.declared.Stop.{Stop}
-use Rattle.runs.specs.declared.Front.{Front}
 use Rattle.runs.specs.Fronts.{front_of, front_in}
 use Rattle.runs.specs.Runs.{step_in}
 use Rattle.runs.proofs.Along.{takes_one, not_both, Fits, Run, inside, stands_at, stopped, few, each, Steps}
@@ -22,20 +22,20 @@ use Rattle.chunk_runs.specs.Chunks.{chunk_front, chunk_at, record_at, chunk_offs
 use Rattle.chunk_runs.specs.Stops.{NoChunk, WholeChunks}
 
 -- what the answer of `take_chunk` says of the front
-chunk_front_lem : (t : List ℕ) (answer : Taken) → taken_tells answer ≡ chunk_take t → chunk_front t ≡ front_of answer
-chunk_front_lem t (Taken.Took n) e = chunk_way t (Taken.Took n) e (λ why. Front.Stops (Stop.Refused why)) Front.Takes
-chunk_front_lem t (Taken.Refused why) e = chunk_way t (Taken.Refused why) e (λ why. Front.Stops (Stop.Refused why)) Front.Takes
+chunk_front_lem : (t : List ℕ) (answer : Result ℕ Refusal) → told_of answer ≡ chunk_take t → chunk_front t ≡ front_of answer
+chunk_front_lem t (Ok n) e = chunk_way t (Ok n) e (λ why. Err (Stop.Refused why)) Ok
+chunk_front_lem t (Err why) e = chunk_way t (Err why) e (λ why. Err (Stop.Refused why)) Ok
 
 -- what takes n bytes is a whole chunk
-pub chunk_stands : (t : List ℕ) (n : ℕ) → chunk_front t ≡ Front.Takes n → success n ≡ chunk_take t
+pub chunk_stands : (t : List ℕ) (n : ℕ) → chunk_front t ≡ Ok n → success n ≡ chunk_take t
 chunk_stands t n e = by (chunk_answer t).answer (chunk_told t) where
-  by : (answer : Taken) → taken_tells answer ≡ chunk_take t → success n ≡ chunk_take t
-  by (Taken.Took m) told = ap success (takes_one n m (sym e ∙ chunk_front_lem t (Taken.Took m) told)) ∙ told
-  by (Taken.Refused why) told = absurd (not_both _ n (sym (chunk_front_lem t (Taken.Refused why) told) ∙ e))
+  by : (answer : Result ℕ Refusal) → told_of answer ≡ chunk_take t → success n ≡ chunk_take t
+  by (Ok m) told = ap success (takes_one n m (sym e ∙ chunk_front_lem t (Ok m) told)) ∙ told
+  by (Err why) told = absurd (not_both _ n (sym (chunk_front_lem t (Err why) told) ∙ e))
 
 -- its size, its sizes, and the record that it holds
-pub chunk_holds : (t : List ℕ) (n : ℕ) → chunk_front t ≡ Front.Takes n → (n ≡ chunk_size t) × Sized t × (taken (record_part t) ≤ length (record_part t))
-chunk_holds t n e = chunk_says t (Taken.Took n) (chunk_stands t n e) n refl
+pub chunk_holds : (t : List ℕ) (n : ℕ) → chunk_front t ≡ Ok n → (n ≡ chunk_size t) × Sized t × (taken (record_part t) ≤ length (record_part t))
+chunk_holds t n e = chunk_says t (Ok n) (chunk_stands t n e) n refl
 
 pub chunk_fits : Fits chunk_front
 chunk_fits t n e =
@@ -52,7 +52,7 @@ abbrev pub chunk_run : (s : List ℕ) → Run s
 chunk_run s = record { here = chunk_front; front = chunk_at s; is = chunk_is s; fits = chunk_fits }
 
 -- elsewhere than at the exact end it is what `take_chunk` answers
-pub chunk_answered : (s : List ℕ) (p : ℕ) → (p ≡ length s → ⊥) → (answer : Taken) → taken_tells answer ≡ chunk_take (drop p s) → chunk_at s p ≡ front_of answer
+pub chunk_answered : (s : List ℕ) (p : ℕ) → (p ≡ length s → ⊥) → (answer : Result ℕ Refusal) → told_of answer ≡ chunk_take (drop p s) → chunk_at s p ≡ front_of answer
 chunk_answered s p inner answer e = inside (chunk_run s) p inner ∙ chunk_front_lem (drop p s) answer e
 
 -- its reader at age a
@@ -64,25 +64,25 @@ abbrev pub chunk_steps : (a : ℕ) (s : List ℕ) → Steps (chunk_run s) a
 chunk_steps a s = record { read = λ q. aged a (record_at s q); step = chunk_step_of a s; steps = chunk_step_is a s }
 
 -- what `parse_chunk` gives of the bytes from an offset on
-module _ (a : ℕ) (s : List ℕ) (p : ℕ) (known : true ≡ is_age a) (t : List ℕ) (there : t ≡ drop p s) (parsed : Parsed) (e : parsed_outcome parsed ≡ chunk_parse a t) where
-  tells : taken_tells parsed.answer ≡ chunk_take (drop p s)
+module _ (a : ℕ) (s : List ℕ) (p : ℕ) (known : true ≡ is_age a) (t : List ℕ) (there : t ≡ drop p s) (answer : Result Parsed Refusal) (e : parsed_outcome answer ≡ chunk_parse a t) where
+  tells : (parsed_outcome answer).tells ≡ chunk_take (drop p s)
   tells = ap (λ (o : ParseOutcome). o.tells) (e ∙ ap (chunk_parse a) there) ∙ parse_tells a (drop p s) known
 
-  -- its answer says what stands there
-  pub parsed_front : (p ≡ length s → ⊥) → (answer : Taken) → parsed.answer ≡ answer → chunk_at s p ≡ front_of answer
-  parsed_front inner answer is = chunk_answered s p inner answer (ap taken_tells (sym is) ∙ tells)
+  -- it says what stands there
+  pub parsed_front : (p ≡ length s → ⊥) → (r : Result ℕ Refusal) → told_of r ≡ (parsed_outcome answer).tells → chunk_at s p ≡ front_of r
+  parsed_front inner r is = chunk_answered s p inner r (is ∙ tells)
 
   -- and its record is that of the chunk
-  pub parsed_record : (n : ℕ) → parsed.answer ≡ Taken.Took n → parsed.«record» ≡ aged a (record_at s p)
+  pub parsed_record : (n : ℕ) → success n ≡ (parsed_outcome answer).tells → (parsed_outcome answer).gives ≡ aged a (record_at s p)
   parsed_record n is =
-      ap (λ (o : ParseOutcome). o.gives) (e ∙ ap (chunk_parse a) there) ∙ parse-read a (drop p s) n known (ap taken_tells (sym is) ∙ tells)
+      ap (λ (o : ParseOutcome). o.gives) (e ∙ ap (chunk_parse a) there) ∙ parse-read a (drop p s) n known (is ∙ tells)
 
 -- where a run stops no whole chunk stands
-no_chunk : (s : List ℕ) (p : ℕ) (stop : Stop) → chunk_at s p ≡ Front.Stops stop → NoChunk (drop p s)
+no_chunk : (s : List ℕ) (p : ℕ) (stop : Stop) → chunk_at s p ≡ Err stop → NoChunk (drop p s)
 no_chunk s p stop e = by (chunk_answer (drop p s)).answer (chunk_told (drop p s)) where
-  by : (answer : Taken) → taken_tells answer ≡ chunk_take (drop p s) → NoChunk (drop p s)
-  by (Taken.Took n) told = absurd (not_both stop n (sym e ∙ stands_at (chunk_run s) p n (chunk_front_lem (drop p s) (Taken.Took n) told)))
-  by (Taken.Refused why) told = record { why = why; refused = told }
+  by : (answer : Result ℕ Refusal) → told_of answer ≡ chunk_take (drop p s) → NoChunk (drop p s)
+  by (Ok n) told = absurd (not_both stop n (sym e ∙ stands_at (chunk_run s) p n (chunk_front_lem (drop p s) (Ok n) told)))
+  by (Err why) told = record { why = why; refused = told }
 
 -- the chunks of a run
 pub whole_chunks : (s : List ℕ) (p : ℕ) → WholeChunks s p

@@ -4,7 +4,7 @@ use mathlib.Core.Path.{◌≡◌, refl, sym, ap, ◌∙◌}
 use mathlib.Core.Bool.{true}
 use mathlib.Core.List.{List}
 use lib.ListN.{length, get_or, drop}
-use Rattle.answers.specs.declared.Taken.{Taken}
+use Rattle.std.specs.Prelude.{Result, Ok, Err}
 use Rattle.buffer.specs.Written.{Outcome}
 use Rattle.record.specs.declared.ResTableConfig.{ResTableConfig}
 use Rattle.record.specs.Ages.{is_age}
@@ -12,7 +12,6 @@ use Rattle.reading.specs.Reading.{taken}
 use Rattle.reading.proofs.Whole.{age_known}
 use Rattle.marking.specs.Marks.{marks_outcome}
 use Rattle.text.specs.Text.{aged_text}
-use Rattle.runs.specs.declared.Front.{Front}
 use Rattle.runs.specs.Fronts.{StepOutcome}
 use Rattle.runs.specs.Runs.{step_of}
 use Rattle.runs.proofs.Along.{stands_at, each, finds_one, finds_all, same_offsets, same_stop, stops_there, same_reason}
@@ -26,17 +25,17 @@ use Rattle.chunk_runs.specs.Demand3.{OfChunk, ChunkDemand3}
 use Rattle.chunk_runs.proofs.Chunks.{chunk_stands, chunk_holds, chunk_run, chunk_steps}
 
 -- a whole chunk stands at offset q of s
-module _ (s : List ℕ) (q n : ℕ) (stands : chunk_front (drop q s) ≡ Front.Takes n) where
+module _ (s : List ℕ) (q n : ℕ) (stands : chunk_front (drop q s) ≡ Ok n) where
   pub record_whole : taken (record_at s q) ≤ length (record_at s q)
   record_whole = (chunk_holds (drop q s) n stands).2
 
   -- at an age, the calls on it are those on its record
   module _ (a : ℕ) (age : is_age a ≡ true) where
     pub text_is : (old : List ℕ) → chunk_text a (drop q s) old ≡ aged_text a (record_at s q) old
-    text_is old = age_known a _ _ (sym age) ∙ chunk_headed (drop q s) (Taken.Took n) (chunk_stands (drop q s) n stands) n refl _ _
+    text_is old = age_known a _ _ (sym age) ∙ chunk_headed (drop q s) (Ok n) (chunk_stands (drop q s) n stands) n refl _ _
 
     pub marks_are : (old : List ℕ) → chunk_marks a (drop q s) old ≡ marks_outcome a (record_at s q) old
-    marks_are old = age_known a _ _ (sym age) ∙ chunk_headed (drop q s) (Taken.Took n) (chunk_stands (drop q s) n stands) n refl _ _
+    marks_are old = age_known a _ _ (sym age) ∙ chunk_headed (drop q s) (Ok n) (chunk_stands (drop q s) n stands) n refl _ _
 
     pub gives_is : (chunk_step_of a s q).gives ≡ (step_of a (record_at s q) 0).gives
     gives_is =

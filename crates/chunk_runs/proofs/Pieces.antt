@@ -6,7 +6,7 @@ use native.Mathlib.Omega.{arith}
 use lib.ListN.{length, drop, length-append}
 use lib.Seq.{drop-drop, drop-append_seam}
 use Rattle.runs.specs.declared.Stop.{Stop}
-use Rattle.runs.specs.declared.Front.{Front}
+use Rattle.std.specs.Prelude.{Result, Ok, Err}
 use Rattle.runs.specs.Fronts.{offsets_in, stop_in, end_in}
 use Rattle.runs.specs.Runs.{most}
 use Rattle.runs.proofs.Fronts.{offset_next, offset_none, stop_next, stop_here, stop_is}
@@ -36,8 +36,8 @@ places_many f p [] = refl
 places_many f p (x ∷ l) = ap suc (places_many f (p + length (f x)) l)
 
 -- each piece stands at the front of whatever begins with it
-module _ {s : List ℕ} (run : Run s) {A : Type 0} (f : A → List ℕ) (stands : (x : A) (w : List ℕ) → run.here (f x ++ w) ≡ Front.Takes (length (f x))) where
-  piece_stands : (p : ℕ) (x : A) (l : List A) → Laid s p (map f (x ∷ l)) → run.front p ≡ Front.Takes (length (f x))
+module _ {s : List ℕ} (run : Run s) {A : Type 0} (f : A → List ℕ) (stands : (x : A) (w : List ℕ) → run.here (f x ++ w) ≡ Ok (length (f x))) where
+  piece_stands : (p : ℕ) (x : A) (l : List A) → Laid s p (map f (x ∷ l)) → run.front p ≡ Ok (length (f x))
   piece_stands p x l at = stands_at run p (length (f x)) (ap run.here at.there ∙ stands x (joined (map f l)))
 
   -- in k turns, where 16 k bytes are left and fewer than 16 more: each is found where it was put, and the run stops at the end

@@ -1,20 +1,19 @@
 -- 02, K3: a run of type chunks, end to end, where it stops and why, and a step of its reader. Assumes nothing.
-use Rattle.std.specs.Prelude.{ℕ, List, drop}
+use Rattle.std.specs.Prelude.{ℕ, List, drop, Result, Ok, Err}
 use Rattle.record.specs.declared.ResTableConfig.{ResTableConfig}
 use Rattle.reading.specs.Reading.{aged}
 use Rattle.runs.specs.declared.Stop.{Stop}
-use Rattle.runs.specs.declared.Front.{Front}
 use Rattle.runs.specs.declared.RunEnd.{RunEnd}
 use Rattle.runs.specs.Fronts.{StepOutcome, front_in, offsets_in, stop_in, end_in, finds_in, stands_in}
 use Rattle.runs.specs.Runs.{most, step_in}
 use Rattle.chunk.specs.Chunk.{chunk_size, record_part, if_chunk}
 
 -- what stands at the front of t: a whole chunk, behind which the next one is as far as its size says, or nothing, for the refusal
-abbrev pub chunk_front : List ℕ → Front
-chunk_front t = if_chunk t (λ why. Front.Stops (Stop.Refused why)) (Front.Takes (chunk_size t))
+abbrev pub chunk_front : List ℕ → Result ℕ Stop
+chunk_front t = if_chunk t (λ why. Err (Stop.Refused why)) (Ok (chunk_size t))
 
 -- what stands at offset p of s: at the exact end nothing, else a chunk
-unfoldable pub chunk_at : List ℕ → ℕ → Front
+unfoldable pub chunk_at : List ℕ → ℕ → Result ℕ Stop
 chunk_at s p = front_in chunk_front s p
 
 -- the record of the chunk at offset p of s: what its header holds from 20 on

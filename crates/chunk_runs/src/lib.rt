@@ -4,21 +4,21 @@ ghost use Rattle.std.specs.Prelude.{◌≡◌};
 ghost use Rattle.runs.specs.Runs.{step_outcome};
 ghost use Rattle.chunk_runs.specs.Chunks.{chunk_at, chunk_run, chunk_step_of};
 
-use answers::{Refusal, Taken};
+use answers::Refusal;
 use chunk::{parse_chunk, take_chunk};
 use reading::lesser;
 use record::Age;
-use runs::{Front, RunEnd, Step, Stepped, Stop, stays};
+use runs::{RunEnd, Step, Stepped, Stop, stays};
 
 // What stands at an offset of bytes: a whole chunk, or the stop of a run.
-pub fn chunk_at(bytes: &[u8], offset: usize) -> Front
+pub fn chunk_at(bytes: &[u8], offset: usize) -> Result<usize, Stop>
     ensures { result ≡ chunk_at bytes.now offset }
 {
     if offset == bytes.len() {
-        return Front::Stops(Stop::Ended);
+        return Err(Stop::Ended);
     }
     let from = lesser(offset, bytes.len());
-    Front::of(take_chunk(&bytes[from..]))
+    Ok(take_chunk(&bytes[from..])?)
 }
 
 // Reads the record of the chunk at an offset for a reader of an age. The next chunk stands as far behind as the chunk's size says.
@@ -32,16 +32,13 @@ pub fn chunk_step_at(bytes: &[u8], offset: usize, age: Age) -> Stepped
         return stays(offset, Stop::Ended);
     }
     let from = lesser(offset, bytes.len());
-    let parsed = parse_chunk(&bytes[from..], age);
-    let record = parsed.record;
-    let answer = parsed.answer;
-    match answer {
-        Taken::Took(n) => Stepped {
+    match parse_chunk(&bytes[from..], age) {
+        Ok(parsed) => Stepped {
             answer: Step::Found,
-            next: offset + n,
-            record,
+            next: offset + parsed.taken,
+            record: parsed.record,
         },
-        Taken::Refused(why) => stays(offset, Stop::Refused(why)),
+        Err(why) => stays(offset, Stop::Refused(why)),
     }
 }
 
@@ -53,11 +50,11 @@ pub fn walk_chunks(bytes: &[u8], offset: usize) -> RunEnd
     let mut records = 0;
     loop {
         match chunk_at(bytes, here) {
-            Front::Takes(n) => {
+            Ok(n) => {
                 here += n;
                 records += 1;
             }
-            Front::Stops(stop) => {
+            Err(stop) => {
                 return RunEnd {
                     records,
                     offset: here,

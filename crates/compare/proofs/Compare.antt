@@ -4,11 +4,20 @@ use mathlib.Core.Path.{◌≡◌, refl, sym, ap, ◌∙◌}
 use mathlib.Core.List.{List, [], ◌∷◌, ◌++◌}
 use mathlib.Core.Bool.{Bool, true, false, cond, true≢false}
 use native.Mathlib.Omega.{arith}
+use native.Mathlib.Decide.{dec_lt}
 use native.Mathlib.Numerals.{add-one}
-use lib.Dec.{eqb}
+use lib.Dec.{eqb, ltb}
 use lib.ListN.{length, get_or, take, drop, drop_of_length-le, take-append-drop}
-use lib.Seq.{drop-cons, take_all, take-append_seam}
-use borrow.Author.Tests.{eq-eqb, ne_eqb, eqb-true}
+use lib.Seq.{drop-cons, take-append_seam}
+use borrow.Author.Tests.{eq-eqb, ne_eqb, eqb-true, lt-ltb, le-ltb}
+use Rattle.std.specs.Bool.{Decides}
+use Rattle.std.specs.List.{position, position_or_len}
+use Rattle.std.specs.Option.{unwrap_or}
+use Rattle.std.specs.Str.{bytes_eq}
+use Rattle.std.proofs.Common.{Option, Some, None}
+use Rattle.std.proofs.lemmas.Bool.Decides.{same_from_decides}
+use Rattle.std.proofs.lemmas.List.Recursion.{is_position_or_len}
+use Rattle.std.proofs.lemmas.Slice.Eq.{bytes_eq-Decides}
 use Rattle.laws.proofs.Choice.{chosen_by}
 use Rattle.laws.proofs.Tests.{not_yes}
 use Rattle.compare.specs.Compare.{same, begins_with, up_to}
@@ -33,6 +42,14 @@ same_refl (a ∷ s) = rw (eq-eqb a a refl) (same_refl s)
 pub same_false : (s t : List ℕ) → (s ≡ t → ⊥) → same s t ≡ false
 same_false s t h = not_yes (same s t) (λ e. h (same_true s t e))
 
+-- the test tells whether they are one list
+same_Decides : (s t : List ℕ) → Decides (same s t) (s ≡ t)
+same_Decides s t = (same_true s t, λ e. rw e (same_refl t))
+
+-- bytes that are equal place by place are the same
+pub same_is : (s t : List ℕ) → bytes_eq s t ≡ same s t
+same_is s t = same_from_decides (bytes_eq s t) (same s t) (bytes_eq-Decides s t) (same_Decides s t)
+
 -- lists of two lengths aren't the same
 pub same_length : (s t : List ℕ) → (length s ≡ length t → ⊥) → false ≡ same s t
 same_length s t h = sym (same_false s t (λ e. h (ap length e)))
@@ -48,15 +65,17 @@ pub same_end : (s t : List ℕ) (i : ℕ) → length s ≤ i → length t ≤ i 
 unfolding same
 same_end s t i h k = rw (drop_of_length-le s h, drop_of_length-le t k)
 
--- what is shorter than w doesn't begin with w
-pub begins_short : (w s : List ℕ) → length s < length w → false ≡ begins_with w s
-unfolding begins_with
-begins_short w s h = same_length (take (length w) s) w (λ e. omega (arith, rw (take_all (length w) s (omega arith)) at e))
-
 -- the front of s as long as w decides
-pub begins_is : (w s : List ℕ) → same (take (length w) s) w ≡ begins_with w s
+pub begins_is : (w s : List ℕ) → bytes_eq w (take (length w) s) ≡ begins_with w s
 unfolding begins_with
-begins_is w s = refl
+begins_is w s =
+    let d = bytes_eq-Decides w (take (length w) s) in
+    same_from_decides (bytes_eq w (take (length w) s)) (begins_with w s) (λ e. sym (d.0 e), λ e. d.1 (sym e)) (same_Decides (take (length w) s) w)
+
+-- the same, with the bytes first
+pub strips_is : (w s : List ℕ) → bytes_eq (take (length w) s) w ≡ begins_with w s
+unfolding begins_with
+strips_is w s = same_is (take (length w) s) w
 
 -- what begins with w is w and the rest
 pub begins_true : (w s : List ℕ) → begins_with w s ≡ true → s ≡ w ++ drop (length w) s
@@ -74,11 +93,6 @@ pub begins_other : (x : ℕ) (w s : List ℕ) → (get_or s 0 0 ≡ x → ⊥) �
 unfolding begins_with same
 begins_other x w [] h = refl
 begins_other x w (b ∷ s) h = rw (ne_eqb b x h)
-
--- one byte, and the rest
-pub up_at : (b : ℕ) (s : List ℕ) (i : ℕ) → i < length s → up_to b (drop i s) ≡ cond (eqb (get_or s i 0) b) 0 (suc (up_to b (drop (i + 1) s)))
-unfolding up_to
-up_at b s i h = rw (drop-cons s i 0 h, add-one)
 
 -- nothing is left
 pub up_end : (b : ℕ) (s : List ℕ) (i : ℕ) → length s ≤ i → up_to b (drop i s) ≡ 0
@@ -113,3 +127,17 @@ up_found b (a ∷ s) =
     chosen_by (λ (x : ℕ). x < suc (length s) → get_or (a ∷ s) x 0 ≡ b) (eqb a b)
     (λ t h. eqb-true a b t)
     (λ t h. up_found b s (omega arith))
+
+-- the first place of b, or the end
+up_place : (b : ℕ) (s : List ℕ) → up_to b s ≡ position_or_len (λ x. eqb x b) s
+unfolding up_to
+up_place b s = is_position_or_len (up_to b) (λ x. eqb x b) refl (λ x xs. let e : 1 + up_to b xs ≡ suc (up_to b xs) = omega arith in rw e refl) s
+
+-- the place of the first b where there is one, and the length else
+pub up_first : (b : ℕ) (s : List ℕ) (r : Option ℕ) → r ≡ position (λ x. eqb x b) s → unwrap_or r (length s) ≡ up_to b s
+up_first b s r e =
+    let g : r ≡ cond (ltb (up_to b s) (length s)) (Some (up_to b s)) None = rw (up_place b s) e in
+    elim (dec_lt (up_to b s) (length s)) [
+      | yes h ↦ rw (g, lt-ltb (up_to b s) (length s) h)
+      | no h ↦ rw (g, le-ltb (up_to b s) (length s) (omega arith)) (omega (arith, up_most b s))
+    ]

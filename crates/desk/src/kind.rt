@@ -1,6 +1,6 @@
 // `words KIND NUMBER`: the words of a kind as 000 displays them, from the number that a record holds.
 use crate::{given, say};
-use compare::{same, up_to};
+use compare::same;
 use kinds::{
     Density, GrammaticalGender, Hdr, Keyboard, KeysHidden, Kind, LayoutDir, NavHidden, Navigation,
     Orientation, ScreenLong, ScreenRound, ScreenSize, Touchscreen, UIMode, UIModeNight,
@@ -11,28 +11,19 @@ use std::io;
 use std::rt::Env;
 use words_length::write_words;
 
-// The place of a word in a list with a space between each two, counted from 0; one past the last where it isn't there.
-fn place_in(list: &[u8], word: &[u8]) -> usize {
-    let mut place = 0;
-    let mut at = 0;
-    while at < list.len() {
-        let end = at + up_to(&list[at..], b' ');
-        if same(&list[at..end], word) {
-            return place;
-        }
-        place += 1;
-        at = end + 1;
-    }
-    place
+// The place of a word in a list with a space between each two, counted from 0.
+fn place_in(list: &[u8], word: &[u8]) -> Option<usize> {
+    list.split(|b| *b == b' ')
+        .position(|listed| same(listed, word))
 }
 
 // The greatest number of the kind at a place of the list: a record holds a density in two bytes, and each other kind in one.
-fn greatest(place: usize) -> u32 {
+fn greatest(place: usize) -> u16 {
     if place == 10 { 65535 } else { 255 }
 }
 
 // The kind at a place of the list, made of a number.
-fn kind_of(place: usize, number: u32) -> Kind {
+fn kind_of(place: usize, number: u16) -> Kind {
     let n = (number % 256) as u8;
     match place {
         0 => Kind::GrammaticalGender(GrammaticalGender::from(n)),
@@ -45,7 +36,7 @@ fn kind_of(place: usize, number: u32) -> Kind {
         7 => Kind::Orientation(Orientation::from(n)),
         8 => Kind::UIMode(UIMode::from(n)),
         9 => Kind::UIModeNight(UIModeNight::from(n)),
-        10 => Kind::Density(Density::from((number % 65536) as u16)),
+        10 => Kind::Density(Density::from(number)),
         11 => Kind::Touchscreen(Touchscreen::from(n)),
         12 => Kind::KeysHidden(KeysHidden::from(n)),
         13 => Kind::Keyboard(Keyboard::from(n)),
@@ -64,7 +55,7 @@ fn no_kind(rt: &impl Print, given: &[u8], list: &[u8]) -> io::Result<()> {
 }
 
 // Says that bytes are no number up to the greatest.
-fn no_number(rt: &impl Print, given: &[u8], greatest: u32) -> io::Result<()> {
+fn no_number(rt: &impl Print, given: &[u8], greatest: u16) -> io::Result<()> {
     say::misused(rt)?;
     say::quoted(rt, given)?;
     say::plainly(rt, b" is no number from 0 to ")?;
@@ -74,14 +65,15 @@ fn no_number(rt: &impl Print, given: &[u8], greatest: u32) -> io::Result<()> {
 
 // Answers to the number of the kind at a place of the list.
 fn of_number(rt: &impl Print, place: usize, given: &[u8]) -> io::Result<()> {
-    let number = number_in(given);
     let greatest = greatest(place);
-    if greatest < number {
-        return no_number(rt, given, greatest);
+    match number_in(given) {
+        Some(number) if number <= greatest => {
+            let mut out = [0u8; 25];
+            let answer = write_words(kind_of(place, number), &mut out);
+            say::written(rt, answer, &out, b"\n")
+        }
+        _ => no_number(rt, given, greatest),
     }
-    let mut out = [0u8; 25];
-    let answer = write_words(kind_of(place, number), &mut out);
-    say::written(rt, answer, &out, b"\n")
 }
 
 // Takes the kind and the number from the arguments and answers to them.
@@ -93,10 +85,9 @@ pub(crate) fn answer(rt: &(impl Print + Env), room: &mut [u8]) -> io::Result<()>
     let list =
         b"GrammaticalGender LayoutDir ScreenSize ScreenLong ScreenRound WideColorGamut Hdr Orientation UIMode UIModeNight Density Touchscreen KeysHidden Keyboard NavHidden Navigation";
     let n = given::put(rt, 2, room);
-    let place = place_in(list, &room[..n]);
-    if 15 < place {
+    let Some(place) = place_in(list, &room[..n]) else {
         return no_kind(rt, &room[..n], list);
-    }
+    };
     let n = given::put(rt, 3, room);
     of_number(rt, place, &room[..n])
 }

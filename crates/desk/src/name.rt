@@ -1,7 +1,6 @@
 // `name NAME`: the line of the record for which a directory name stands, as in a listing of that record alone; with `--bytes` before
 // the name, the record's 64 bytes.
 use crate::{given, say};
-use answers::Written;
 use compare::{same, up_to};
 use names::write_name;
 use reading::lesser;
@@ -46,8 +45,8 @@ fn print(rt: &impl Print, record: &[u8], bytes: bool) -> io::Result<()> {
 fn named(rt: &impl Print, name: &[u8], bytes: bool) -> io::Result<()> {
     let mut record = [0u8; 64];
     match write_name(name, &mut record) {
-        Written::Wrote(_) => print(rt, &record, bytes),
-        Written::Refused(why) => refuse(rt, name, why.carried()),
+        Ok(_) => print(rt, &record, bytes),
+        Err(why) => refuse(rt, name, why.carried()),
     }
 }
 

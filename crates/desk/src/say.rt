@@ -1,5 +1,5 @@
 // What the program prints. Its first line says what the rest is: `answer`, `refused` or `misused`. The script ./desk goes by that line.
-use answers::Written;
+use answers::Refusal;
 use reading::lesser;
 use record_line::put_escaped;
 use std::io;
@@ -49,15 +49,20 @@ pub(crate) fn quoted(rt: &impl Print, bytes: &[u8]) -> io::Result<()> {
 }
 
 // Answers with what a call wrote at a buffer's front and with more bytes behind it, or with the number of the call's refusal.
-pub(crate) fn written(rt: &impl Print, answer: Written, out: &[u8], more: &[u8]) -> io::Result<()> {
+pub(crate) fn written(
+    rt: &impl Print,
+    answer: Result<usize, Refusal>,
+    out: &[u8],
+    more: &[u8],
+) -> io::Result<()> {
     match answer {
-        Written::Wrote(n) => {
+        Ok(n) => {
             let n = lesser(n, out.len());
             self::answer(rt)?;
             plainly(rt, &out[..n])?;
             plainly(rt, more)
         }
-        Written::Refused(why) => {
+        Err(why) => {
             refused(rt)?;
             plainly(rt, b"refusal ")?;
             number(rt, why.number() as usize)?;

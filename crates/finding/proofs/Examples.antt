@@ -3,13 +3,13 @@ use Prim.Native.Nat.{ℕ}
 use mathlib.Core.Path.{◌≡◌, refl}
 use mathlib.Core.List.{List, [], ◌∷◌, ◌++◌}
 use lib.ListN.{take, drop, replicate}
+use Rattle.std.specs.Prelude.{None, Some}
 use Rattle.answers.specs.declared.Refusal.{Refusal}
 use Rattle.answers.specs.Tells.{success, refusal}
 use Rattle.buffer.specs.Ascii.{ascii}
 use Rattle.keys.specs.Keys.{key_of}
 use Rattle.reading.specs.Cut.{lacking}
 use Rattle.reading.specs.Reading.{reads, field_by, record_by, plain, if_whole}
-use Rattle.finding.specs.declared.Found.{Found}
 use Rattle.finding.specs.Finding.{has_key, place_of, find_of, find_told}
 
 -- a record of sixteen bytes: mcc 310, locale "enUS", screen type 1 0 240 0
@@ -32,15 +32,15 @@ last_other = entry (0 ∷ 0 ∷ 1 ∷ 54 ∷ ascii "SUne" ++ (0 ∷ 240 ∷ 0 �
 
 pub examples :
     -- no entries; those of others; its own behind them; its own twice, of which the first counts
-    (find_of [] (plain sixteen) ≡ Found.Nothing)
-    × (find_of (first_other ++ last_other) (plain sixteen) ≡ Found.Nothing)
-    × (find_of (first_other ++ (last_other ++ its)) (plain sixteen) ≡ Found.Entry 2)
-    × (find_of (last_other ++ (its ++ its)) (plain sixteen) ≡ Found.Entry 1)
+    (find_of [] (plain sixteen) ≡ None)
+    × (find_of (first_other ++ last_other) (plain sixteen) ≡ None)
+    × (find_of (first_other ++ (last_other ++ its)) (plain sixteen) ≡ Some 2)
+    × (find_of (last_other ++ (its ++ its)) (plain sixteen) ≡ Some 1)
     -- an entry whose last byte is lacking isn't one, and bytes behind the last whole one don't matter
-    × (find_of (last_other ++ take 75 its) (plain sixteen) ≡ Found.Nothing)
-    × (find_of (its ++ take 75 last_other) (plain sixteen) ≡ Found.Entry 0)
+    × (find_of (last_other ++ take 75 its) (plain sixteen) ≡ None)
+    × (find_of (its ++ take 75 last_other) (plain sixteen) ≡ Some 0)
     -- an entry stands at every 76th byte only
-    × (find_of (0 ∷ its ++ its) (plain sixteen) ≡ Found.Nothing)
+    × (find_of (0 ∷ its ++ its) (plain sixteen) ≡ None)
     -- 0 of nothing, 1 + the place of an entry, and the record's refusals
     × (find_told [] sixteen ≡ success 0)
     × (find_told its sixteen ≡ success 1)

@@ -8,6 +8,7 @@ use native.Mathlib.Omega.{arith}
 use lib.ListN.{length, get_or, drop, drop_of_length-le}
 use lib.Seq.{drop-cons, get_or-take, get_or-drop}
 use borrow.Author.Tests.{eq-eqb, eqb-true, lt-ltb, le-ltb}
+use Rattle.std.specs.Prelude.{Option, None, Some}
 use Rattle.laws.proofs.Tests.{and_both, not_yes}
 use Rattle.laws.proofs.Least.{NoneBelow, Least, least_is, least_none}
 use Rattle.laws.proofs.Lists.{part_long}
@@ -18,8 +19,7 @@ use Rattle.record.specs.declared.ResTableConfig.{ResTableConfig}
 use Rattle.order.specs.Order.{agree}
 use Rattle.keys.specs.Keys.{key_of, Sound}
 use Rattle.keys.proofs.KeyOrder.{key_long}
-use Rattle.finding.specs.declared.Found.{Found}
-use Rattle.finding.specs.Finding.{whole_in, has_key, place_of, find_of}
+use Rattle.finding.specs.Finding.{whole_in, has_key, place_of, found_at, find_of}
 
 -- lists that agree are one
 agree_true : (s t : List ℕ) → agree s t ≡ true → s ≡ t
@@ -58,15 +58,15 @@ module _ (e : List ℕ) (at : ℕ) (k : List ℕ) where
         let l : length k ≤ i = omega arith in
         rw (drop_of_length-le (part e at 60) g, drop_of_length-le k l)
 
--- the place of the first entry with a key, from looking at one after the other
+-- what is found from looking at one entry after the other
 module _ (e k : List ℕ) where
-  pub place_found : (i : ℕ) → i < whole_in e → Least (has_key e k) i → i ≡ place_of e k
+  pub place_found : (i : ℕ) → i < whole_in e → Least (has_key e k) i → Some i ≡ found_at (whole_in e) (place_of e k)
   unfolding place_of
-  place_found i h l = sym (least_is (whole_in e) (has_key e k) i h l)
+  place_found i h l = rw (least_is (whole_in e) (has_key e k) i h l, lt-ltb i (whole_in e) h)
 
-  pub place_none : NoneBelow (has_key e k) (whole_in e) → whole_in e ≡ place_of e k
+  pub place_none : NoneBelow (has_key e k) (whole_in e) → None ≡ found_at (whole_in e) (place_of e k)
   unfolding place_of
-  place_none h = sym (least_none (whole_in e) (has_key e k) h)
+  place_none h = rw (least_none (whole_in e) (has_key e k) h, le-ltb (whole_in e) (whole_in e) (omega arith))
 
   -- an entry has the key as its sixty bytes agree with it
   pub entry_agrees : (i : ℕ) {b : Bool} → agree (part e (76 * i) 60) k ≡ b → has_key e k i ≡ b
@@ -79,12 +79,8 @@ key_filled r {old} s h p =
     let l = key_long r s in
     front_is p (omega arith) ∙ ap (λ (w : List ℕ). key_of r ++ w) (drop_of_length-le old {i = length (key_of r)} (omega arith)) ∙ append-nil (key_of r)
 
--- what is found at the place
-module _ (e : List ℕ) (r : ResTableConfig) {k : List ℕ} {place : ℕ} (key : k ≡ key_of r) (at : place ≡ place_of e k) where
-  pub found_entry : place < whole_in e → Found.Entry place ≡ find_of e r
-  unfolding find_of
-  found_entry h = rw (← key, ← at, lt-ltb place (whole_in e) h)
-
-  pub found_nothing : whole_in e ≤ place → Found.Nothing ≡ find_of e r
-  unfolding find_of
-  found_nothing h = rw (← key, ← at, le-ltb place (whole_in e) h)
+-- what is found by the key is what is found of the record
+pub found_by_key : (e : List ℕ) (r : ResTableConfig) {k : List ℕ} {found : Option ℕ} → k ≡ key_of r
+    → found ≡ found_at (whole_in e) (place_of e k) → found ≡ find_of e r
+unfolding find_of
+found_by_key e r key h = rw key at h

@@ -10,16 +10,15 @@ use lib.Seq.{take_all}
 use borrow.Author.Tests.{ltb-true}
 use Rattle.laws.proofs.Choice.{chosen_by}
 use Rattle.answers.specs.declared.Refusal.{Refusal}
-use Rattle.answers.specs.declared.Taken.{Taken}
+use Rattle.std.specs.Prelude.{Option, Some, Ok, Err}
 use Rattle.answers.specs.declared.Told.{Told}
-use Rattle.answers.specs.Tells.{success, refusal, taken_tells}
+use Rattle.answers.specs.Tells.{success, refusal}
 use Rattle.record.specs.declared.ResTableConfig.{ResTableConfig}
 use Rattle.keys.specs.Keys.{key_of}
 use Rattle.reading.specs.declared.Parsed.{Parsed}
 use Rattle.reading.specs.Reading.{ParseOutcome, parsed_outcome, parse_of, take_of, plain}
 use Rattle.reading.proofs.Exactly.{parse_tells}
 use Rattle.reading.proofs.Whole.{took_whole, refused_whole}
-use Rattle.finding.specs.declared.Found.{Found}
 use Rattle.finding.specs.Finding.{whole_in, place_of, find_of, found_tells, looked_at, find_told}
 
 -- what holds of every success below 2^32 holds of what is found among so many entries
@@ -28,7 +27,7 @@ found_by : (P : Told → Type 0) → ((n : ℕ) → n < 4294967296 → P (succes
 unfolding find_of
 found_by P good e r h =
     let place = place_of e (key_of r) in
-    chosen_by (λ (f : Found). P (found_tells f)) (ltb place (whole_in e))
+    chosen_by (λ (f : Option ℕ). P (found_tells f)) (ltb place (whole_in e))
     (λ t. good (1 + place) (omega (arith, ltb-true place (whole_in e) t)))
     (λ t. good 0 (lit< tt))
 
@@ -36,6 +35,13 @@ found_by P good e r h =
 pub found_small : (P : Told → Type 0) → ((n : ℕ) → n < 4294967296 → P (success n)) → (e : List ℕ) (r : ResTableConfig)
     → P (found_tells (find_of (take looked_at e) r))
 found_small P good e r = found_by P good (take looked_at e) r (omega (arith, length-take looked_at e))
+
+-- and its place is small
+pub place_small : (e : List ℕ) (r : ResTableConfig) (place : ℕ) → find_of (take looked_at e) r ≡ Some place → place < 4294967296
+place_small e r place h =
+    let small = found_small (λ t. t.amount < 4294967296) (λ n g. g) e r in
+    let z : (found_tells (Some place)).amount < 4294967296 = rw h at small in
+    omega (arith, z)
 
 -- up to the lesser of a bound and the end
 pub take_lesser : (e : List ℕ) (m n : ℕ) → n ≡ min m (length e) → take n e ≡ take m e
@@ -46,18 +52,18 @@ take_lesser e m n h =
     ]
 
 -- a parse of s, and entries
-module _ (e s : List ℕ) (p : Parsed) (q : parsed_outcome p ≡ parse_of s) where
-  tells : taken_tells p.answer ≡ take_of s
-  tells = ap (λ (o : ParseOutcome). o.tells) q ∙ parse_tells s
+module _ (e s : List ℕ) where
+  tells : (o : ParseOutcome) → o ≡ parse_of s → o.tells ≡ take_of s
+  tells o q = ap (λ (o : ParseOutcome). o.tells) q ∙ parse_tells s
 
   -- it was refused, and so is the call
-  pub parse_refused : (why : Refusal) → p.answer ≡ Taken.Refused why → refusal why ≡ find_told e s
+  pub parse_refused : (why : Refusal) → parsed_outcome (Err why) ≡ parse_of s → refusal why ≡ find_told e s
   unfolding find_told
-  parse_refused why a = sym (refused_whole s _ _ why (sym (ap taken_tells a) ∙ tells))
+  parse_refused why q = sym (refused_whole s _ _ why (tells _ q))
 
   -- it wasn't, and its record is looked for
-  pub parse_took : (n : ℕ) → p.answer ≡ Taken.Took n → found_tells (find_of (take looked_at e) p.«record») ≡ find_told e s
+  pub parse_took : (p : Parsed) → parsed_outcome (Ok p) ≡ parse_of s → found_tells (find_of (take looked_at e) p.«record») ≡ find_told e s
   unfolding find_told
-  parse_took n a =
-      let took = sym (ap taken_tells a) ∙ tells in
-      rw (took_whole s refusal (found_tells (find_of (take looked_at e) (plain s))) n took, ap (λ (o : ParseOutcome). o.gives) (q ∙ took_whole s _ _ n took))
+  parse_took p q =
+      let took : success p.taken ≡ take_of s = tells _ q in
+      rw (took_whole s refusal (found_tells (find_of (take looked_at e) (plain s))) p.taken took, ap (λ (o : ParseOutcome). o.gives) (q ∙ took_whole s _ _ p.taken took))

@@ -79,7 +79,7 @@ abbrev OwnNumber : ℕ → Density → Type 0
 OwnNumber n d = 1 ≤ unnamed d → d ≡ Density.Unknown n
 
 -- a density has a word or no text, or it is its own number
-named_or_not : (n : ℕ) → 1 ≤ unnamed (density_of n) → density_of n ≡ Density.Unknown n
+pub named_or_not : (n : ℕ) → 1 ≤ unnamed (density_of n) → density_of n ≡ Density.Unknown n
 named_or_not n =
     chosen_by P (eqb n 0) (λ e. none) (λ e. chosen_by P (eqb n 120) (λ e. none) (λ e. chosen_by P (eqb n 160) (λ e. none)
     (λ e. chosen_by P (eqb n 213) (λ e. none) (λ e. chosen_by P (eqb n 240) (λ e. none) (λ e. chosen_by P (eqb n 320) (λ e. none)
@@ -91,6 +91,33 @@ named_or_not n =
 
     none : {A : Type 0} → 1 ≤ 0 → A
     none h = absurd (omega arith)
+
+-- and the number of one that has neither is its own
+pub unknown_is : (n v : ℕ) → density_of n ≡ Density.Unknown v → v ≡ n
+unknown_is n v e = sym (ap (own n) e) ∙ owned
+  where
+    own : ℕ → Density → ℕ
+    own n Density.Default = n
+    own n Density.Low = n
+    own n Density.Medium = n
+    own n Density.TV = n
+    own n Density.High = n
+    own n Density.XHigh = n
+    own n Density.XXHigh = n
+    own n Density.XXXHigh = n
+    own n Density.Any = n
+    own n Density.None = n
+    own n (Density.Unknown v) = v
+
+    P : Density → Type 0
+    P d = own n d ≡ n
+
+    owned : own n (density_of n) ≡ n
+    owned =
+        chosen_by P (eqb n 0) (λ e. refl) (λ e. chosen_by P (eqb n 120) (λ e. refl) (λ e. chosen_by P (eqb n 160) (λ e. refl)
+        (λ e. chosen_by P (eqb n 213) (λ e. refl) (λ e. chosen_by P (eqb n 240) (λ e. refl) (λ e. chosen_by P (eqb n 320) (λ e. refl)
+        (λ e. chosen_by P (eqb n 480) (λ e. refl) (λ e. chosen_by P (eqb n 640) (λ e. refl) (λ e. chosen_by P (eqb n 0xfffe) (λ e. refl)
+        (λ e. chosen_by P (eqb n 0xffff) (λ e. refl) (λ e. refl))))))))))
 
 -- a density that has no word, by the grammar
 pub density_gives : {v : ℕ} {w : List ℕ} → Makes Form.density v w → density_value w ≡ v

@@ -5,7 +5,7 @@ use mathlib.Core.List.{List, ◌∷◌, map}
 use native.Mathlib.Omega.{arith}
 use native.Mathlib.Nat.{mul-suc, mul-zero}
 use lib.ListN.{length, get_or}
-use Rattle.runs.specs.declared.Front.{Front}
+use Rattle.std.specs.Prelude.{Ok, Err}
 use Rattle.runs.specs.declared.Stop.{Stop}
 use Rattle.runs.specs.Fronts.{offsets_in}
 use Rattle.runs.specs.Runs.{front_at, most, offsets_of}
@@ -35,7 +35,7 @@ count_few s x =
     let d = (whole_records s 0).few in
     omega (arith, c, d)
 
-module _ (s : List ℕ) (k : ℕ) (qs ns : List ℕ) (left p n : ℕ) (a : Adding s k qs ns left p) (takes : front_at s p ≡ Front.Takes n) where
+module _ (s : List ℕ) (k : ℕ) (qs ns : List ℕ) (left p n : ℕ) (a : Adding s k qs ns left p) (takes : front_at s p ≡ Ok n) where
   abbrev rest : List ℕ
   rest = offsets_in (left - 1) (front_at s) (p + n)
 
@@ -68,7 +68,7 @@ module _ (s : List ℕ) (k : ℕ) (qs ns : List ℕ) (left p n : ℕ) (a : Addin
       }
 
 -- where the run stops all are counted
-pub added_all : (s : List ℕ) (k : ℕ) (qs ns : List ℕ) (left p : ℕ) (stop : Stop) → Adding s k qs ns left p → front_at s p ≡ Front.Stops stop
+pub added_all : (s : List ℕ) (k : ℕ) (qs ns : List ℕ) (left p : ℕ) (stop : Stop) → Adding s k qs ns left p → front_at s p ≡ Err stop
     → length qs ≡ length ns → Rises (order_at s) qs → ns ≡ map (λ (q : ℕ). k * count_in s q) qs
 unfolding count_equal
 added_all s k qs ns left p stop a stops beside rising =

@@ -5,7 +5,7 @@ use mathlib.Core.List.{List, [], map}
 use mathlib.Core.Bool.{Bool, true, false}
 use native.Mathlib.Omega.{arith}
 use lib.ListN.{length, take}
-use Rattle.runs.specs.declared.Front.{Front}
+use Rattle.std.specs.Prelude.{Ok, Err}
 use Rattle.runs.specs.declared.Stop.{Stop}
 use Rattle.runs.specs.Fronts.{offsets_in}
 use Rattle.runs.specs.Runs.{front_at, most, offsets_of}
@@ -47,7 +47,7 @@ room_for : (b : Bool) (t l n : ℕ) → (b ≡ true → n < 4294967296) → t + 
 room_for true t l n fits e k = let f = fits refl in omega (arith, e, f)
 room_for false t l n fits e k = omega (arith, e)
 
-module _ (s : List ℕ) (room : ℕ) (b : Bool) (held : List ℕ) (m p n : ℕ) (g : Gathering s room b held m p) (takes : front_at s p ≡ Front.Takes n) where
+module _ (s : List ℕ) (room : ℕ) (b : Bool) (held : List ℕ) (m p n : ℕ) (g : Gathering s room b held m p) (takes : front_at s p ≡ Ok n) where
   abbrev rest : List ℕ
   rest = offsets_in (g.left - 1) (front_at s) (p + n)
 
@@ -103,7 +103,7 @@ module _ (s : List ℕ) (room : ℕ) (b : Bool) (held : List ℕ) (m p n : ℕ) 
 
 -- where the run stops all are gathered
 pub gathered_all : (s : List ℕ) (room : ℕ) (b : Bool) (held : List ℕ) (m p : ℕ) (stop : Stop) → room ≤ 1024 → Gathering s room b held m p
-    → front_at s p ≡ Front.Stops stop → Gathered s room b held m
+    → front_at s p ≡ Err stop → Gathered s room b held m
 unfolding risen
 gathered_all s room b held m p stop enough g stops =
     let there : m ≤ length held = omega (arith, g.most, g.long) in

@@ -8,7 +8,7 @@ use native.Mathlib.Nat.{one-mul}
 use lib.ListN.{length, get_or, take, drop, set, length-append, length-set, take-append-drop}
 use Rattle.record.specs.Table.{part, le}
 use Rattle.order.specs.declared.Ordering.{Ordering}
-use Rattle.runs.specs.declared.Front.{Front}
+use Rattle.std.specs.Prelude.{Result, Ok, Err, is_ok}
 use Rattle.runs.specs.declared.Stop.{Stop}
 use Rattle.runs.specs.Runs.{front_at, most, offsets_of}
 use Rattle.order_at.specs.OrderAt.{order_at}
@@ -19,8 +19,7 @@ use Rattle.rising.proofs.Places.{among_hit, hit_within}
 use Rattle.rising.proofs.Counts.{recount_hit, tallied_hit, tallied_none, some_counted}
 use Rattle.rising.proofs.Sorted.{rising_distinct, found_distinct}
 use Rattle.index.specs.Index.{firsts, count_in, index_of}
-use Rattle.index.specs.Steps.{counts_in, SeatAmong, Uncounted, entries_with, one_more_at}
-use Rattle.index.specs.declared.held.Seat.{Seat}
+use Rattle.index.specs.Steps.{counts_in, SeatAmong, Uncounted, entries_with, one_more_at, seat_of}
 use Rattle.index.proofs.Words.{ranks, places_long, counts_long}
 use Rattle.index.proofs.Adding.{Adding, adding_begins, adding_on, added_all, one_short, count_few}
 use Rattle.index.proofs.Amounts.{count_says, count_adds}
@@ -60,8 +59,11 @@ as_long s rest out p g =
 pub firsts_rise : (s : List ℕ) → Rises (order_at s) (firsts s)
 firsts_rise s = rising_distinct (order_at s) (ranks s) (offsets_of s 0)
 
-module _ (s rest out : List ℕ) (p n : ℕ) (g : Recounting s rest out p) (takes : front_at s p ≡ Front.Takes n) (r : Seat)
+module _ (s rest out : List ℕ) (p n : ℕ) (g : Recounting s rest out p) (takes : front_at s p ≡ Ok n) (r : Result ℕ ℕ)
     (sought : SeatAmong s p (firsts s) r) where
+  abbrev seat : ℕ
+  seat = seat_of r
+
   abbrev to : ℕ → Ordering
   to q = order_at s q p
 
@@ -74,43 +76,47 @@ module _ (s rest out : List ℕ) (p n : ℕ) (g : Recounting s rest out p) (take
       found_distinct (order_at s) (ranks s) (offsets_of s 0) (toward_place (order_at s) (ranks s) p) (λ q. true) false
       ∙ some_counted to (offsets_of s 0) (omega (arith, short))
 
-  within : r.at < length (firsts s)
+  -- so it is met
+  pub is_met : is_ok r ≡ true
+  is_met = sought.met ∙ hits
+
+  within : seat < length (firsts s)
   within = omega (arith, hit_within to (firsts s) hits, sought.at)
 
   -- its count stands in the buffer
-  pub reaches : 76 * r.at + 76 ≤ length out
+  pub reaches : 76 * seat + 76 ≤ length out
   reaches = omega (arith, as_long s rest out p g, within)
 
   -- it is below what the run has
-  below : length s < 18446744073709551616 → get_or g.ns r.at 0 < 18446744073709551615
+  below : length s < 18446744073709551616 → get_or g.ns seat 0 < 18446744073709551615
   below h =
-      let e : tallied to (firsts s) g.ns ≡ get_or g.ns r.at 0 = tallied_hit to (firsts s) g.ns g.beside hits ∙ ap (λ (i : ℕ). get_or g.ns i 0) (sym sought.at) in
+      let e : tallied to (firsts s) g.ns ≡ get_or g.ns seat 0 = tallied_hit to (firsts s) g.ns g.beside hits ∙ ap (λ (i : ℕ). get_or g.ns i 0) (sym sought.at) in
       omega (arith, e, short, count_few s p)
 
   module _ (fits : length s < 18446744073709551616) where
-    low : get_or g.ns r.at 0 < 18446744073709551616
+    low : get_or g.ns seat 0 < 18446744073709551616
     low = omega (arith, below fits)
 
-    pub has_room : le (part out (76 * r.at + 68) 8) < 18446744073709551615
+    pub has_room : le (part out (76 * seat + 68) 8) < 18446744073709551615
     has_room =
-        let e = count_says s (firsts s) g.ns rest r.at g.beside within low in
+        let e = count_says s (firsts s) g.ns rest seat g.beside within low in
         rw (g.holds, e) (below fits)
 
-    pub recounting_on : Recounting s rest (one_more_at out (76 * r.at + 68)) (p + n)
+    pub recounting_on : Recounting s rest (one_more_at out (76 * seat + 68)) (p + n)
     recounting_on =
         let same = among_hit (order_at s) p (firsts s) hits in
-        let more : recount 1 to (firsts s) g.ns ≡ set g.ns r.at (get_or g.ns r.at 0 + 1) =
+        let more : recount 1 to (firsts s) g.ns ≡ set g.ns seat (get_or g.ns seat 0 + 1) =
         recount_hit 1 to (firsts s) g.ns g.beside hits ∙ ap (λ (i : ℕ). set g.ns i (get_or g.ns i 0 + 1)) (sym sought.at) in
         record {
           left = g.left - 1;
-          ns = set g.ns r.at (get_or g.ns r.at 0 + 1);
-          beside = g.beside ∙ sym (length-set g.ns r.at (get_or g.ns r.at 0 + 1));
-          holds = ap (λ (l : List ℕ). one_more_at l (76 * r.at + 68)) g.holds ∙ count_adds s (firsts s) g.ns rest r.at g.beside within low;
+          ns = set g.ns seat (get_or g.ns seat 0 + 1);
+          beside = g.beside ∙ sym (length-set g.ns seat (get_or g.ns seat 0 + 1));
+          holds = ap (λ (l : List ℕ). one_more_at l (76 * seat + 68)) g.holds ∙ count_adds s (firsts s) g.ns rest seat g.beside within low;
           adding = rw (same, more) at (adding_on _ _ _ _ _ _ _ g.adding takes g.beside);
         }
 
 -- where the run stops it is the index
-pub recounted_all : (s rest out : List ℕ) (p : ℕ) (stop : Stop) → Recounting s rest out p → front_at s p ≡ Front.Stops stop → out ≡ index_of s ++ rest
+pub recounted_all : (s rest out : List ℕ) (p : ℕ) (stop : Stop) → Recounting s rest out p → front_at s p ≡ Err stop → out ≡ index_of s ++ rest
 recounted_all s rest out p stop g stops =
     let c = added_all _ _ _ _ _ _ stop g.adding stops g.beside (firsts_rise s) in
     g.holds

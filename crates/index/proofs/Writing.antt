@@ -1,5 +1,5 @@
 -- Entries one after the other, and how long they are. Assumes nothing.
-use Prim.Native.Nat.{ℕ, zero, suc, ◌+◌, ◌*◌, ◌-◌, ◌/◌, ◌%◌, ◌≤◌, ◌<◌, min}
+use Prim.Native.Nat.{ℕ, zero, suc, ◌+◌, ◌*◌, ◌/◌, ◌%◌, ◌≤◌, ◌<◌, min}
 use mathlib.Core.Path.{◌≡◌, refl, sym, ap, ◌∙◌}
 use mathlib.Core.List.{List, [], ◌∷◌, ◌++◌, map, append_assoc, append-nil}
 use mathlib.Core.Bool.{Bool, true, false, cond, ◌&&◌}
@@ -8,7 +8,7 @@ use native.Mathlib.Nat.{one-mul}
 use native.Mathlib.Numerals.{add-one}
 use lib.Dec.{leb}
 use lib.ListN.{length, get_or, take, drop, length-append}
-use lib.Seq.{take_at, drop_at}
+use lib.Seq.{take_at, take_all, drop_at}
 use borrow.Author.Tests.{le-leb, leb-true}
 use Rattle.answers.specs.declared.Refusal.{Refusal}
 use Rattle.answers.specs.Tells.{success}
@@ -66,8 +66,8 @@ module _ (s : List ℕ) (b : Bool) where
   put_none = put_nil
 
   -- and ends with all
-  pub put_to : (held : List ℕ) (j m : ℕ) {o n : List ℕ} {r : ℕ} → j ≡ m → Put o 0 (entries_held s b (take j held)) n r → Put o 0 (entries_held s b (take m held)) n r
-  put_to held j m e p = rw e at p
+  pub put_to : (held : List ℕ) (j : ℕ) {o n : List ℕ} {r : ℕ} → length held ≤ j → Put o 0 (entries_held s b (take j held)) n r → Put o 0 (entries_held s b held) n r
+  put_to held j e p = rw take_all at p
 
 -- where two tests don't both hold
 chosen_no : {A : Type 0} (a b : Bool) (x y : A) → (a ≡ true → b ≡ true → ⊥) → cond (a && b) x y ≡ y

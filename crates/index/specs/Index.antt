@@ -1,15 +1,13 @@
 -- 02, K9: the index of a run: its distinct records in rising order, each with where it stands first and how often. Assumes nothing.
 use Rattle.std.specs.Prelude.{ℕ, List, [], ◌∷◌, ◌++◌, cond, ◌&&◌, leb, length, drop}
 use Rattle.answers.specs.declared.Refusal.{Refusal}
-use Rattle.answers.specs.declared.Told.{Told}
-use Rattle.answers.specs.Tells.{success, refusal}
-use Rattle.buffer.specs.Written.{Outcome, refused}
+use Rattle.answers.specs.Tells.{success}
+use Rattle.buffer.specs.Written.{Outcome, outcome, refused}
 use Rattle.runs.specs.declared.RunEnd.{RunEnd}
 use Rattle.runs.specs.Runs.{offsets_of, run_of}
 use Rattle.order_at.specs.OrderAt.{plain_at, order_at}
 use Rattle.rising.specs.Rising.{count_equal, distinct, sorted}
 use Rattle.entries.specs.Entry.{entry_of}
-use Rattle.index.specs.declared.Entries.{Entries}
 use Rattle.index.specs.declared.Indexed.{Indexed}
 
 -- where the distinct records of the run of s stand first: of its offsets, those of the first record of each kind, sorted by the records
@@ -36,11 +34,6 @@ index_written s old =
     (record { tells = success (length (firsts s)); leaves = index_of s ++ drop (length (index_of s)) old })
     (refused Refusal.ShortBuffer old)
 
--- what an answer tells
-abbrev pub entries_tell : Entries → Told
-entries_tell (Entries.Wrote n) = success n
-entries_tell (Entries.Refused why) = refusal why
-
 -- what a call comes to that indexes a run: what it tells and leaves; and where the run stops, which goes along with every answer
 pub record IndexOutcome : Type 0 where
   pub does : Outcome
@@ -48,7 +41,7 @@ pub record IndexOutcome : Type 0 where
 
 -- what an answer and a lent buffer come to
 abbrev pub indexed_outcome : Indexed → List ℕ → IndexOutcome
-indexed_outcome i buffer = record { does = record { tells = entries_tell i.answer; leaves = buffer }; run = i.end }
+indexed_outcome i buffer = record { does = outcome i.answer buffer; run = i.end }
 
 -- indexing the run of s, which begins at offset 0
 abbrev pub index_outcome : List ℕ → List ℕ → IndexOutcome

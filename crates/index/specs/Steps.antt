@@ -1,13 +1,12 @@
 -- What the machinery of the index does: it holds, for each distinct record, its offset and its count in one number, or the offset alone and
 -- counts in the entries. Assumes nothing.
-use Rattle.std.specs.Prelude.{ℕ, zero, suc, ◌+◌, ◌*◌, ◌/◌, ◌%◌, ◌≤◌, ◌<◌, ◌≡◌, List, [], ◌∷◌, ◌++◌, map, Bool, true, false, length, get_or, set, take, drop}
+use Rattle.std.specs.Prelude.{ℕ, zero, suc, ◌+◌, ◌*◌, ◌/◌, ◌%◌, ◌≤◌, ◌<◌, ◌≡◌, List, [], ◌∷◌, ◌++◌, map, Bool, true, false, length, get_or, set, take, drop, Result, Ok, Err, is_ok}
 use Rattle.record.specs.Table.{part, le}
 use Rattle.order_at.specs.OrderAt.{plain_at, order_at}
 use Rattle.rising.specs.Rising.{Rises}
 use Rattle.rising.specs.Steps.{rank, hit, taken_in, recount, tallied}
 use Rattle.entries.specs.Entry.{entry_of, little8}
 use Rattle.index.specs.Index.{firsts, count_in, index_of}
-use Rattle.index.specs.declared.held.Seat.{Seat}
 
 -- what a held offset is multiplied with: 2^32 where counts are held beside it
 abbrev pub unit_of : Bool → ℕ
@@ -36,10 +35,15 @@ unfoldable pub carry : List ℕ → ℕ → ℕ → ℕ → List ℕ
 carry a i x zero = a
 carry a i x (suc n) = carry (set a i x) (suc i) (get_or a i 0) n
 
+-- the place of a record that is sought among others: its own where it is met, else the one where it would stand
+abbrev pub seat_of : Result ℕ ℕ → ℕ
+seat_of (Ok at) = at
+seat_of (Err at) = at
+
 -- the record at offset p of s is sought among those at qs: how many are Less, and whether one is Equal
-pub record SeatAmong (s : List ℕ) (p : ℕ) (qs : List ℕ) (r : Seat) : Type 0 where
-  pub at : r.at ≡ rank (λ q. order_at s q p) qs
-  pub met : r.met ≡ hit (λ q. order_at s q p) qs
+pub record SeatAmong (s : List ℕ) (p : ℕ) (qs : List ℕ) (r : Result ℕ ℕ) : Type 0 where
+  pub at : seat_of r ≡ rank (λ q. order_at s q p) qs
+  pub met : is_ok r ≡ hit (λ q. order_at s q p) qs
 
 -- the first m of the held numbers have rising places, and there is room to hold and count one more at offset p
 pub record CanTakeIn (s : List ℕ) (p : ℕ) (held : List ℕ) (m room : ℕ) (counted : Bool) : Type 0 where

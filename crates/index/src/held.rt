@@ -8,14 +8,7 @@ ghost use Rattle.index.specs.Steps.{Fits, Gathered, CanTakeIn, SeatAmong, TakenI
 
 use order::Ordering;
 use order_at::order_at;
-use runs::{Front, front_at};
-
-// Where a record is sought: how many of the held ones are Less, and whether the next is Equal.
-#[derive(Clone, Copy)]
-pub(crate) struct Seat {
-    pub(crate) at: usize,
-    pub(crate) met: bool,
-}
+use runs::front_at;
 
 // The offset in a held number.
 pub(crate) fn offset_in(w: usize, counted: bool) -> usize
@@ -50,8 +43,15 @@ fn first_at(offset: usize, counted: bool) -> usize
     }
 }
 
-// Seeks the record at an offset among the first m held ones, which rise, by halving.
-pub(crate) fn seek(bytes: &[u8], offset: usize, held: &[usize], m: usize, counted: bool) -> Seat
+// Seeks the record at an offset among the first m held ones, which rise, by halving: the place of the one that is Equal, or the place
+// where it would stand.
+pub(crate) fn seek(
+    bytes: &[u8],
+    offset: usize,
+    held: &[usize],
+    m: usize,
+    counted: bool,
+) -> Result<usize, usize>
     requires { (m ≤ length held.now) × Rises (order_at bytes.now) (places_in counted (take m held.now)) }
     ensures { SeatAmong bytes.now offset (places_in counted (take m held.now)) result }
 {
@@ -63,12 +63,10 @@ pub(crate) fn seek(bytes: &[u8], offset: usize, held: &[usize], m: usize, counte
         match order_at(bytes, offset_in(w, counted), offset) {
             Ordering::Less => lo = mid + 1,
             Ordering::Greater => hi = mid,
-            Ordering::Equal => {
-                return Seat { at: mid, met: true };
-            }
+            Ordering::Equal => return Ok(mid),
         }
     }
-    Seat { at: lo, met: false }
+    Err(lo)
 }
 
 // Puts x at place `from`, and moves those from there up to place `to` one up.
@@ -76,13 +74,11 @@ fn slide(held: &mut [usize], from: usize, to: usize, x: usize)
     requires { (from ≤ to) × (to < length held.old) }
     ensures { held.new ≡ carry held.old from x (to + 1 - from) }
 {
-    let mut i = from;
     let mut carried = x;
-    while i <= to {
+    for i in from..to + 1 {
         let next = held[i];
         held[i] = carried;
         carried = next;
-        i += 1;
     }
 }
 
@@ -98,17 +94,19 @@ fn take_in(
     requires { CanTakeIn bytes.now offset held.old m room counted }
     ensures { TakenIn bytes.now offset held.old m room counted held.new result }
 {
-    let sought = seek(bytes, offset, held, m, counted);
-    let at = sought.at;
-    if sought.met {
-        held[at] += step_in(counted);
-        return m;
+    match seek(bytes, offset, held, m, counted) {
+        Ok(at) => {
+            held[at] += step_in(counted);
+            m
+        }
+        Err(at) => {
+            if room <= m {
+                return m + 1;
+            }
+            slide(held, at, m, first_at(offset, counted));
+            m + 1
+        }
     }
-    if room <= m {
-        return m + 1;
-    }
-    slide(held, at, m, first_at(offset, counted));
-    m + 1
 }
 
 // Gathers the run that begins at offset 0, and answers how many distinct records it has; where there is no room for one it stops.
@@ -118,18 +116,12 @@ pub(crate) fn gather(bytes: &[u8], room: usize, counted: bool, held: &mut [usize
 {
     let mut m = 0;
     let mut here = 0;
-    loop {
-        match front_at(bytes, here) {
-            Front::Takes(n) => {
-                m = take_in(bytes, here, held, m, room, counted);
-                if room < m {
-                    return m;
-                }
-                here += n;
-            }
-            Front::Stops(stop) => {
-                return m;
-            }
+    while let Ok(n) = front_at(bytes, here) {
+        m = take_in(bytes, here, held, m, room, counted);
+        if room < m {
+            return m;
         }
+        here += n;
     }
+    m
 }

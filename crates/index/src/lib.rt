@@ -8,39 +8,21 @@ mod recount;
 
 ghost use Rattle.std.specs.Prelude.{◌≡◌, ◌≤◌, length, take};
 ghost use Rattle.buffer.specs.Put.{Put};
-ghost use Rattle.index.specs.Index.{entries_tell, index_outcome, indexed_outcome};
+ghost use Rattle.buffer.specs.Written.{outcome};
+ghost use Rattle.index.specs.Index.{index_outcome, index_written, indexed_outcome};
 ghost use Rattle.index.specs.Steps.{entries_held};
 
-use answers::{Refusal, Told};
+use answers::Refusal;
 use entries::put_entry;
 use order_at::record_at;
 use reading::lesser;
 use runs::{RunEnd, walk};
 
-// The answer of a call that writes an index: how many entries.
-#[derive(Clone, Copy)]
-pub enum Entries {
-    Wrote(usize),
-    Refused(Refusal),
-}
-
-// The answer of indexing a run, and how many records the run has, where it stops and why.
+// How many entries the index of a run has or why none is written, and how many records the run has, where it stops and why.
 #[derive(Clone, Copy)]
 pub struct Indexed {
-    pub answer: Entries,
+    pub answer: Result<usize, Refusal>,
     pub end: RunEnd,
-}
-
-impl Entries {
-    // What the answer tells in 01's numbers.
-    pub fn told(self) -> Told
-        ensures { result ≡ entries_tell self }
-    {
-        match self {
-            Self::Wrote(amount) => Told::success(amount),
-            Self::Refused(why) => why.told(),
-        }
-    }
 }
 
 // Puts the entries of the first m held numbers.
@@ -49,43 +31,40 @@ fn put_entries(bytes: &[u8], held: &[usize], m: usize, counted: bool, out: &mut 
     ensures { Put out.old 0 (entries_held bytes.now counted (take m held.now)) out.new result }
 {
     let mut o = 0;
-    let mut j = 0;
-    while j < m {
-        let w = held[j];
+    for &w in &held[..m] {
         let offset = held::offset_in(w, counted);
         let count = held::count_in(w, counted);
         let x = record_at(bytes, offset);
         o = put_entry(x, offset, count, o, out);
-        j += 1;
     }
     o
 }
 
-// Writes the index of the run that begins at offset 0.
-pub fn index(bytes: &[u8], out: &mut [u8]) -> Indexed
-    ensures { indexed_outcome result out.new ≡ index_outcome bytes.now out.old }
+// Writes the index of the run that begins at offset 0, and answers how many entries it has.
+fn write_index(bytes: &[u8], out: &mut [u8]) -> Result<usize, Refusal>
+    ensures { outcome result out.new ≡ index_written bytes.now out.old }
 {
-    let end = walk(bytes, 0);
     let mut held: [usize; 1024] = [0; 1024];
     let room = lesser(1024, out.len() / 76);
     let counted = bytes.len() < 4294967296;
     let m = held::gather(bytes, room, counted, &mut held);
     if room < m {
-        return Indexed {
-            answer: Entries::Refused(Refusal::ShortBuffer),
-            end,
-        };
+        return Err(Refusal::ShortBuffer);
     }
     put_entries(bytes, &held, m, counted, out);
-    if counted {
-        return Indexed {
-            answer: Entries::Wrote(m),
-            end,
-        };
+    if !counted {
+        recount::recount(bytes, &held, m, out);
     }
-    recount::recount(bytes, &held, m, out);
+    Ok(m)
+}
+
+// Writes the index of the run that begins at offset 0, and walks the run to where it stops.
+pub fn index(bytes: &[u8], out: &mut [u8]) -> Indexed
+    ensures { indexed_outcome result out.new ≡ index_outcome bytes.now out.old }
+{
+    let end = walk(bytes, 0);
     Indexed {
-        answer: Entries::Wrote(m),
+        answer: write_index(bytes, out),
         end,
     }
 }

@@ -7,7 +7,7 @@ ghost use Rattle.index.specs.Steps.{Uncounted, one_more_at};
 
 use crate::held::seek;
 use entries::put_eight;
-use runs::{Front, front_at};
+use runs::front_at;
 
 // A byte as a number.
 fn wide(x: u8) -> usize
@@ -36,23 +36,16 @@ fn count_more(at: usize, out: &mut [u8])
     put_eight(count + 1, at, out);
 }
 
-// Counts the records of the run that begins at offset 0 in the entries of its m distinct ones.
+// Counts the records of the run that begins at offset 0 in the entries of its m distinct ones: each is met among them.
 pub(crate) fn recount(bytes: &[u8], held: &[usize], m: usize, out: &mut [u8])
     requires { Uncounted bytes.now held.now m out.old }
     ensures { out.new ≡ index_of bytes.now ++ drop (length (index_of bytes.now)) out.old }
 {
     let mut here = 0;
-    loop {
-        match front_at(bytes, here) {
-            Front::Takes(n) => {
-                let sought = seek(bytes, here, held, m, false);
-                let place = sought.at;
-                count_more(76 * place + 68, out);
-                here += n;
-            }
-            Front::Stops(stop) => {
-                return;
-            }
+    while let Ok(n) = front_at(bytes, here) {
+        if let Ok(place) = seek(bytes, here, held, m, false) {
+            count_more(76 * place + 68, out);
         }
+        here += n;
     }
 }

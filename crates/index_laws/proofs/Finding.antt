@@ -6,6 +6,7 @@ use mathlib.Core.List.{List}
 use native.Mathlib.Omega.{arith}
 use lib.ListN.{length}
 use borrow.Author.Tests.{lt-ltb, le-ltb}
+use Rattle.std.specs.Prelude.{None}
 use Rattle.laws.specs.Below.{least_below}
 use Rattle.laws.proofs.Least.{Least, least_is, least_none}
 use Rattle.laws.proofs.Tests.{clash}
@@ -28,7 +29,6 @@ use Rattle.runs.specs.Runs.{offsets_of}
 use Rattle.index.specs.Index.{firsts, index_of}
 use Rattle.index.proofs.Words.{ranks}
 use Rattle.index.proofs.Writing.{entries_long}
-use Rattle.finding.specs.declared.Found.{Found}
 use Rattle.finding.specs.Finding.{has_key, place_of, found_at, find_of}
 use Rattle.index_laws.specs.Claims.{offset_in, FoundIn, FindsExactly}
 use Rattle.index_laws.proofs.Keys.{toward_record, sound_at, key_at}
@@ -93,7 +93,7 @@ module _ (s : List ℕ) (x : ResTableConfig) (bytes : Bytes s) (sound : Sound x)
       clash z)
       (λ e. rw e)
 
-  pub found_none : some_equal to (offsets_of s 0) ≡ false → find_of (index_of s) x ≡ Found.Nothing
+  pub found_none : some_equal to (offsets_of s 0) ≡ false → find_of (index_of s) x ≡ None
   found_none none =
       let h : hit to (firsts s) ≡ false = hits ∙ none in
       found_by (least_none n (has_key (index_of s) (key_of x)) (λ i k. has_key_lem i k ∙ not_equal h i k)) ∙ rw (le-ltb n n (omega arith))

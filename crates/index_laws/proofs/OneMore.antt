@@ -23,7 +23,7 @@ use Rattle.rising.proofs.Alike.{Each, each_of, each_at, each_first, same_first, 
 use Rattle.rising.proofs.Sums.{no_new, count_last, one_higher}
 use Rattle.rising.proofs.Places.{hit_within}
 use Rattle.rising.proofs.Sorted.{found_distinct}
-use Rattle.runs.specs.declared.Front.{Front}
+use Rattle.std.specs.Prelude.{Ok}
 use Rattle.runs.specs.declared.Stop.{Stop}
 use Rattle.runs.specs.Fronts.{offsets_in, stop_in}
 use Rattle.runs.specs.Runs.{front_at, most, offsets_of, stop_of}
@@ -61,11 +61,11 @@ module _ (s t : List ℕ) where
       ∙ sym (aged_plain (drop q s ++ t)) ∙ (behind_record (drop q s) t h).reads 64 ∙ aged_plain (drop q s)
       ∙ sym (at_whole s q h)
 
-  same_front : (p n : ℕ) → front_at s p ≡ Front.Takes n → front_at (s ++ t) p ≡ Front.Takes n
+  same_front : (p n : ℕ) → front_at s p ≡ Ok n → front_at (s ++ t) p ≡ Ok n
   same_front p n e =
       let says = took_says (drop p s) n (front_says s p n e) in
       front_whole (s ++ t) p (still_whole p says.1)
-      ∙ ap Front.Takes (ap taken (before p says.1) ∙ same_taken (drop p s) t says.1 ∙ sym says.0)
+      ∙ ap Ok (ap taken (before p says.1) ∙ same_taken (drop p s) t says.1 ∙ sym says.0)
 
   module _ (ends : stop_of s 0 ≡ length s) (one : taken t ≡ length t) where
     abbrev end : ℕ
@@ -77,8 +77,8 @@ module _ (s t : List ℕ) where
     last_record : plain_at (s ++ t) end ≡ plain t
     last_record = at_whole (s ++ t) end last_whole ∙ ap plain (drop-append_seam s t)
 
-    last_front : front_at (s ++ t) end ≡ Front.Takes (length t)
-    last_front = front_whole (s ++ t) end last_whole ∙ ap Front.Takes (ap taken (drop-append_seam s t) ∙ one)
+    last_front : front_at (s ++ t) end ≡ Ok (length t)
+    last_front = front_whole (s ++ t) end last_whole ∙ ap Ok (ap taken (drop-append_seam s t) ∙ one)
 
     last_one : (j : ℕ) → offsets_in (suc j) (front_at (s ++ t)) end ≡ end ∷ []
     last_one j =

@@ -2,22 +2,20 @@
 use Prim.Native.Nat.{ℕ}
 use mathlib.Core.Path.{◌≡◌, refl, sym, ap, ◌∙◌}
 use mathlib.Core.List.{List}
+use Rattle.std.specs.Prelude.{Result}
+use Rattle.answers.specs.declared.Refusal.{Refusal}
 use Rattle.answers.specs.declared.Told.{Told}
-use Rattle.answers.proofs.OneToOne.{back, ok_back, refused_back, tells_one}
+use Rattle.answers.specs.Tells.{told_of}
+use Rattle.answers.proofs.OneToOne.{answer_one}
 use Rattle.runs.specs.declared.RunEnd.{RunEnd}
-use Rattle.index.specs.declared.Entries.{Entries}
 use Rattle.index.specs.declared.Indexed.{Indexed}
-use Rattle.index.specs.Index.{IndexOutcome, entries_tell, indexed_outcome, index_outcome}
+use Rattle.index.specs.Index.{IndexOutcome, indexed_outcome, index_outcome}
 
-entries_back : (r : Entries) → back Entries.Wrote Entries.Refused (entries_tell r) ≡ r
-entries_back (Entries.Wrote n) = ok_back Entries.Wrote Entries.Refused n
-entries_back (Entries.Refused why) = refused_back Entries.Wrote Entries.Refused why
+-- of what is told of the entries: the answer is fixed
+pub one_entries : {t : Told} (r s : Result ℕ Refusal) → told_of r ≡ t → told_of s ≡ t → r ≡ s
+one_entries r s p q = answer_one r s (p ∙ sym q)
 
--- of `told`
-pub one_entries : {t : Told} (r s : Entries) → entries_tell r ≡ t → entries_tell s ≡ t → r ≡ s
-one_entries r s p q = tells_one entries_tell Entries.Wrote Entries.Refused entries_back r s (p ∙ sym q)
-
-same : {a b : Entries} {x y : RunEnd} → a ≡ b → x ≡ y → ◌≡◌ {A = Indexed} (record { answer = a; end = x }) (record { answer = b; end = y })
+same : {a b : Result ℕ Refusal} {x y : RunEnd} → a ≡ b → x ≡ y → ◌≡◌ {A = Indexed} (record { answer = a; end = x }) (record { answer = b; end = y })
 same e f = cc
 
 -- of `index`: the answer, the run's end and the lent bytes are fixed

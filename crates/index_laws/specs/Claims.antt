@@ -1,5 +1,5 @@
 -- 02, K9, as statements about the index of a run; the comments are its words. Assumes nothing.
-use Rattle.std.specs.Prelude.{ℕ, suc, ◌*◌, ◌<◌, ◌≡◌, true, false, List, ◌++◌, map, length, get_or, set}
+use Rattle.std.specs.Prelude.{ℕ, suc, ◌*◌, ◌<◌, ◌≡◌, true, false, List, ◌++◌, map, length, get_or, set, Some, None}
 use Rattle.record.specs.Table.{Bytes, part}
 use Rattle.record.specs.declared.ResTableConfig.{ResTableConfig}
 use Rattle.order.specs.declared.Ordering.{Ordering}
@@ -11,7 +11,6 @@ use Rattle.rising.specs.Rising.{first_equal, some_equal, sum, Rises}
 use Rattle.entries.specs.Entry.{entry_of}
 use Rattle.runs.specs.Runs.{offsets_of, run_of, stop_of}
 use Rattle.index.specs.Index.{firsts, count_in, index_of}
-use Rattle.finding.specs.declared.Found.{Found}
 use Rattle.finding.specs.Finding.{find_of}
 
 -- the key of the entry at place i of e
@@ -70,12 +69,12 @@ pub record FoundIn (s : List ℕ) (x : ResTableConfig) : Type 0 where
   pub place : ℕ
   pub within : place < length (firsts s)
   pub equal : order_of (plain_at s (offset_in s place)) x ≡ Ordering.Equal
-  pub is : find_of (index_of s) x ≡ Found.Entry place
+  pub is : find_of (index_of s) x ≡ Some place
 
 -- finding a record in the index of s gives its entry where an Equal one is in the run, and nothing where none is
 pub record FindsInRun (s : List ℕ) (x : ResTableConfig) : Type 0 where
   pub some : some_equal (λ p. order_of (plain_at s p) x) (offsets_of s 0) ≡ true → FoundIn s x
-  pub none : some_equal (λ p. order_of (plain_at s p) x) (offsets_of s 0) ≡ false → find_of (index_of s) x ≡ Found.Nothing
+  pub none : some_equal (λ p. order_of (plain_at s p) x) (offsets_of s 0) ≡ false → find_of (index_of s) x ≡ None
 
 -- exactly so in every index, of every record of a program
 abbrev pub FindsExactly : Type 0

@@ -3,7 +3,7 @@ ghost use Rattle.std.specs.Prelude.{◌≡◌};
 ghost use Rattle.kinds.specs.Input.{touchscreen_of, keys_hidden_of, keyboard_of, nav_hidden_of, navigation_of};
 
 // What a screen is touched with.
-#[derive(Clone, Copy)]
+#[derive(Clone, Copy, Debug, PartialEq, Eq)]
 pub enum Touchscreen {
     Any,
     NoTouch,
@@ -12,11 +12,11 @@ pub enum Touchscreen {
     Unknown(u8),
 }
 
-impl Touchscreen {
-    // From the whole byte.
-    pub fn from(value: u8) -> Self
-        ensures { result ≡ touchscreen_of value }
-    {
+// From the whole byte.
+impl From<u8> for Touchscreen {
+    ghost from_gives = { λ n kind. kind ≡ touchscreen_of n };
+
+    fn from(value: u8) -> Self {
         match value {
             0x00 => Self::Any,
             0x01 => Self::NoTouch,
@@ -28,7 +28,7 @@ impl Touchscreen {
 }
 
 // Whether the keys are out of reach; 000's `Unknown` is never made and is dropped.
-#[derive(Clone, Copy)]
+#[derive(Clone, Copy, Debug, PartialEq, Eq)]
 pub enum KeysHidden {
     Any,
     No,
@@ -36,11 +36,11 @@ pub enum KeysHidden {
     Soft,
 }
 
-impl KeysHidden {
-    // From the low two bits, so that what is left is 0x03.
-    pub fn from(value: u8) -> Self
-        ensures { result ≡ keys_hidden_of value }
-    {
+// From the low two bits, so that what is left is 0x03.
+impl From<u8> for KeysHidden {
+    ghost from_gives = { λ n kind. kind ≡ keys_hidden_of n };
+
+    fn from(value: u8) -> Self {
         match value & 0x03 {
             0x00 => Self::Any,
             0x01 => Self::No,
@@ -51,7 +51,7 @@ impl KeysHidden {
 }
 
 // The type of keyboard.
-#[derive(Clone, Copy)]
+#[derive(Clone, Copy, Debug, PartialEq, Eq)]
 pub enum Keyboard {
     Any,
     NoKeys,
@@ -60,11 +60,11 @@ pub enum Keyboard {
     Unknown(u8),
 }
 
-impl Keyboard {
-    // From the whole byte.
-    pub fn from(value: u8) -> Self
-        ensures { result ≡ keyboard_of value }
-    {
+// From the whole byte.
+impl From<u8> for Keyboard {
+    ghost from_gives = { λ n kind. kind ≡ keyboard_of n };
+
+    fn from(value: u8) -> Self {
         match value {
             0x00 => Self::Any,
             0x01 => Self::NoKeys,
@@ -76,7 +76,7 @@ impl Keyboard {
 }
 
 // Whether the means of navigation is out of reach.
-#[derive(Clone, Copy)]
+#[derive(Clone, Copy, Debug, PartialEq, Eq)]
 pub enum NavHidden {
     Any,
     No,
@@ -84,11 +84,11 @@ pub enum NavHidden {
     Unknown(u8),
 }
 
-impl NavHidden {
-    // From bits 2 and 3.
-    pub fn from(value: u8) -> Self
-        ensures { result ≡ nav_hidden_of value }
-    {
+// From bits 2 and 3.
+impl From<u8> for NavHidden {
+    ghost from_gives = { λ n kind. kind ≡ nav_hidden_of n };
+
+    fn from(value: u8) -> Self {
         match value & 0x0c {
             0x00 => Self::Any,
             0x04 => Self::No,
@@ -99,7 +99,7 @@ impl NavHidden {
 }
 
 // The means of navigation.
-#[derive(Clone, Copy)]
+#[derive(Clone, Copy, Debug, PartialEq, Eq)]
 pub enum Navigation {
     Any,
     NoNav,
@@ -109,11 +109,11 @@ pub enum Navigation {
     Unknown(u8),
 }
 
-impl Navigation {
-    // From the whole byte.
-    pub fn from(value: u8) -> Self
-        ensures { result ≡ navigation_of value }
-    {
+// From the whole byte.
+impl From<u8> for Navigation {
+    ghost from_gives = { λ n kind. kind ≡ navigation_of n };
+
+    fn from(value: u8) -> Self {
         match value {
             0x00 => Self::Any,
             0x01 => Self::NoNav,

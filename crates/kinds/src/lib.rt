@@ -11,7 +11,7 @@ pub use screen::{
 };
 
 // One of the sixteen kinds.
-#[derive(Clone, Copy)]
+#[derive(Clone, Copy, Debug, PartialEq, Eq)]
 pub enum Kind {
     GrammaticalGender(GrammaticalGender),
     LayoutDir(LayoutDir),

@@ -3,7 +3,7 @@ ghost use Rattle.std.specs.Prelude.{◌≡◌};
 ghost use Rattle.kinds.specs.Mode.{grammatical_gender_of, ui_mode_of, ui_mode_night_of};
 
 // The grammatical gender of who is spoken to.
-#[derive(Clone, Copy)]
+#[derive(Clone, Copy, Debug, PartialEq, Eq)]
 pub enum GrammaticalGender {
     Neuter,
     Feminine,
@@ -11,11 +11,11 @@ pub enum GrammaticalGender {
     Any,
 }
 
-impl GrammaticalGender {
-    // From the low two bits.
-    pub fn from(value: u8) -> Self
-        ensures { result ≡ grammatical_gender_of value }
-    {
+// From the low two bits.
+impl From<u8> for GrammaticalGender {
+    ghost from_gives = { λ n kind. kind ≡ grammatical_gender_of n };
+
+    fn from(value: u8) -> Self {
         match value & 0b11 {
             0b01 => Self::Neuter,
             0b10 => Self::Feminine,
@@ -26,7 +26,7 @@ impl GrammaticalGender {
 }
 
 // What the device is used as.
-#[derive(Clone, Copy)]
+#[derive(Clone, Copy, Debug, PartialEq, Eq)]
 pub enum UIMode {
     Any,
     Normal,
@@ -39,11 +39,11 @@ pub enum UIMode {
     Unknown(u8),
 }
 
-impl UIMode {
-    // From the low four bits.
-    pub fn from(value: u8) -> Self
-        ensures { result ≡ ui_mode_of value }
-    {
+// From the low four bits.
+impl From<u8> for UIMode {
+    ghost from_gives = { λ n kind. kind ≡ ui_mode_of n };
+
+    fn from(value: u8) -> Self {
         match value & 0x0f {
             0x00 => Self::Any,
             0x01 => Self::Normal,
@@ -59,7 +59,7 @@ impl UIMode {
 }
 
 // Whether it is night.
-#[derive(Clone, Copy)]
+#[derive(Clone, Copy, Debug, PartialEq, Eq)]
 pub enum UIModeNight {
     Any,
     No,
@@ -67,11 +67,11 @@ pub enum UIModeNight {
     Unknown(u8),
 }
 
-impl UIModeNight {
-    // From bits 4 and 5.
-    pub fn from(value: u8) -> Self
-        ensures { result ≡ ui_mode_night_of value }
-    {
+// From bits 4 and 5.
+impl From<u8> for UIModeNight {
+    ghost from_gives = { λ n kind. kind ≡ ui_mode_night_of n };
+
+    fn from(value: u8) -> Self {
         match value & 0x30 {
             0x00 => Self::Any,
             0x10 => Self::No,

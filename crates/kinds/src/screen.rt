@@ -3,18 +3,18 @@ ghost use Rattle.std.specs.Prelude.{◌≡◌};
 ghost use Rattle.kinds.specs.Screen.{layout_dir_of, screen_size_of, screen_long_of, screen_round_of, wide_color_gamut_of, hdr_of, orientation_of, density_of, density_number};
 
 // Which way text and layout run.
-#[derive(Clone, Copy)]
+#[derive(Clone, Copy, Debug, PartialEq, Eq)]
 pub enum LayoutDir {
     Ltr,
     Rtl,
     Any(u8),
 }
 
-impl LayoutDir {
-    // From the top two bits.
-    pub fn from(value: u8) -> Self
-        ensures { result ≡ layout_dir_of value }
-    {
+// From the top two bits.
+impl From<u8> for LayoutDir {
+    ghost from_gives = { λ n kind. kind ≡ layout_dir_of n };
+
+    fn from(value: u8) -> Self {
         match value & 0xc0 {
             0x40 => Self::Ltr,
             0x80 => Self::Rtl,
@@ -24,7 +24,7 @@ impl LayoutDir {
 }
 
 // How large a screen is, in four steps.
-#[derive(Clone, Copy)]
+#[derive(Clone, Copy, Debug, PartialEq, Eq)]
 pub enum ScreenSize {
     Small,
     Normal,
@@ -33,11 +33,11 @@ pub enum ScreenSize {
     Any(u8),
 }
 
-impl ScreenSize {
-    // From the low four bits.
-    pub fn from(value: u8) -> Self
-        ensures { result ≡ screen_size_of value }
-    {
+// From the low four bits.
+impl From<u8> for ScreenSize {
+    ghost from_gives = { λ n kind. kind ≡ screen_size_of n };
+
+    fn from(value: u8) -> Self {
         match value & 0x0f {
             0x01 => Self::Small,
             0x02 => Self::Normal,
@@ -49,18 +49,18 @@ impl ScreenSize {
 }
 
 // Whether a screen is longer than usual.
-#[derive(Clone, Copy)]
+#[derive(Clone, Copy, Debug, PartialEq, Eq)]
 pub enum ScreenLong {
     No,
     Yes,
     Any(u8),
 }
 
-impl ScreenLong {
-    // From bits 4 and 5.
-    pub fn from(value: u8) -> Self
-        ensures { result ≡ screen_long_of value }
-    {
+// From bits 4 and 5.
+impl From<u8> for ScreenLong {
+    ghost from_gives = { λ n kind. kind ≡ screen_long_of n };
+
+    fn from(value: u8) -> Self {
         match value & 0x30 {
             0x10 => Self::No,
             0x20 => Self::Yes,
@@ -70,18 +70,18 @@ impl ScreenLong {
 }
 
 // Whether a screen is round.
-#[derive(Clone, Copy)]
+#[derive(Clone, Copy, Debug, PartialEq, Eq)]
 pub enum ScreenRound {
     No,
     Yes,
     Any(u8),
 }
 
-impl ScreenRound {
-    // From the low two bits.
-    pub fn from(value: u8) -> Self
-        ensures { result ≡ screen_round_of value }
-    {
+// From the low two bits.
+impl From<u8> for ScreenRound {
+    ghost from_gives = { λ n kind. kind ≡ screen_round_of n };
+
+    fn from(value: u8) -> Self {
         match value & 0x03 {
             0x01 => Self::No,
             0x02 => Self::Yes,
@@ -91,18 +91,18 @@ impl ScreenRound {
 }
 
 // Whether a screen shows a wide range of colours.
-#[derive(Clone, Copy)]
+#[derive(Clone, Copy, Debug, PartialEq, Eq)]
 pub enum WideColorGamut {
     No,
     Yes,
     Any(u8),
 }
 
-impl WideColorGamut {
-    // From the low two bits.
-    pub fn from(value: u8) -> Self
-        ensures { result ≡ wide_color_gamut_of value }
-    {
+// From the low two bits.
+impl From<u8> for WideColorGamut {
+    ghost from_gives = { λ n kind. kind ≡ wide_color_gamut_of n };
+
+    fn from(value: u8) -> Self {
         match value & 0x03 {
             0x01 => Self::No,
             0x02 => Self::Yes,
@@ -112,18 +112,18 @@ impl WideColorGamut {
 }
 
 // Whether a screen has a high dynamic range.
-#[derive(Clone, Copy)]
+#[derive(Clone, Copy, Debug, PartialEq, Eq)]
 pub enum Hdr {
     No,
     Yes,
     Any(u8),
 }
 
-impl Hdr {
-    // From bits 2 and 3.
-    pub fn from(value: u8) -> Self
-        ensures { result ≡ hdr_of value }
-    {
+// From bits 2 and 3.
+impl From<u8> for Hdr {
+    ghost from_gives = { λ n kind. kind ≡ hdr_of n };
+
+    fn from(value: u8) -> Self {
         match value & 0x0c {
             0x04 => Self::No,
             0x08 => Self::Yes,
@@ -133,7 +133,7 @@ impl Hdr {
 }
 
 // Which way a screen is held.
-#[derive(Clone, Copy)]
+#[derive(Clone, Copy, Debug, PartialEq, Eq)]
 pub enum Orientation {
     Any,
     Port,
@@ -142,11 +142,11 @@ pub enum Orientation {
     Unknown(u8),
 }
 
-impl Orientation {
-    // From the whole byte.
-    pub fn from(value: u8) -> Self
-        ensures { result ≡ orientation_of value }
-    {
+// From the whole byte.
+impl From<u8> for Orientation {
+    ghost from_gives = { λ n kind. kind ≡ orientation_of n };
+
+    fn from(value: u8) -> Self {
         match value {
             0x00 => Self::Any,
             0x01 => Self::Port,
@@ -158,7 +158,7 @@ impl Orientation {
 }
 
 // Dots per inch: seven by name, any other as it is; and three that are no count, of which Default alone has no words.
-#[derive(Clone, Copy)]
+#[derive(Clone, Copy, Debug, PartialEq, Eq)]
 pub enum Density {
     Default,
     Low,
@@ -173,11 +173,11 @@ pub enum Density {
     Unknown(u16),
 }
 
-impl Density {
-    // From a record's number.
-    pub fn from(value: u16) -> Self
-        ensures { result ≡ density_of value }
-    {
+// From a record's number.
+impl From<u16> for Density {
+    ghost from_gives = { λ n kind. kind ≡ density_of n };
+
+    fn from(value: u16) -> Self {
         match value {
             0 => Self::Default,
             120 => Self::Low,
@@ -192,23 +192,25 @@ impl Density {
             v => Self::Unknown(v),
         }
     }
+}
 
-    // Back to a record's number.
-    pub fn number(self) -> u16
-        ensures { result ≡ density_number self }
-    {
-        match self {
-            Self::Default => 0,
-            Self::Low => 120,
-            Self::Medium => 160,
-            Self::TV => 213,
-            Self::High => 240,
-            Self::XHigh => 320,
-            Self::XXHigh => 480,
-            Self::XXXHigh => 640,
-            Self::Any => 0xfffe,
-            Self::None => 0xffff,
-            Self::Unknown(v) => v,
+// Back to a record's number.
+impl From<Density> for u16 {
+    ghost from_gives = { λ density n. n ≡ density_number density };
+
+    fn from(density: Density) -> u16 {
+        match density {
+            Density::Default => 0,
+            Density::Low => 120,
+            Density::Medium => 160,
+            Density::TV => 213,
+            Density::High => 240,
+            Density::XHigh => 320,
+            Density::XXHigh => 480,
+            Density::XXXHigh => 640,
+            Density::Any => 0xfffe,
+            Density::None => 0xffff,
+            Density::Unknown(v) => v,
         }
     }
 }

@@ -8,7 +8,7 @@ ghost use Rattle.subtag.specs.Replacements.{replacements};
 ghost use Rattle.subtag.specs.Subtag.{subtag_of};
 ghost use Rattle.language.specs.Language.{unpacked, language_bytes, language_of, region_bytes, region_of};
 
-use answers::{Counted, Refusal, Written};
+use answers::{Counted, Refusal};
 use buffer::{put, put_byte};
 use subtag::Copied;
 
@@ -86,21 +86,14 @@ fn unpacked_length(a: u8, b: u8, base: u8) -> usize
 }
 
 // Writes the subtag of two bytes; where out is shorter, it is left as it is.
-fn write_unpacked(a: u8, b: u8, base: u8, out: &mut [u8]) -> Counted
+fn write_unpacked(a: u8, b: u8, base: u8, out: &mut [u8]) -> Result<Counted, Refusal>
     requires { (1 ≤ base) × (base ≤ 97) }
     ensures { counted_outcome result out.new ≡ counting (replacements (unpacked base a b)) (written (subtag_of (unpacked base a b)) out.old) }
 {
     if out.len() < unpacked_length(a, b, base) {
-        return Counted {
-            answer: Written::Refused(Refusal::ShortBuffer),
-            replacements: 0,
-        };
+        return Err(Refusal::ShortBuffer);
     }
-    let copied = put_unpacked(a, b, base, 0, out);
-    Counted {
-        answer: Written::Wrote(copied.at),
-        replacements: copied.replacements,
-    }
+    Ok(put_unpacked(a, b, base, 0, out).into())
 }
 
 // Puts a language of two bytes. Machinery, as all that is called `put`: it refuses nothing.
@@ -132,14 +125,14 @@ pub fn region_length(a: u8, b: u8) -> usize
 }
 
 // Writes a language of two bytes; where out is shorter, it is left as it is.
-pub fn write_language(a: u8, b: u8, out: &mut [u8]) -> Counted
+pub fn write_language(a: u8, b: u8, out: &mut [u8]) -> Result<Counted, Refusal>
     ensures { counted_outcome result out.new ≡ counting (replacements (language_bytes a b)) (written (language_of a b) out.old) }
 {
     write_unpacked(a, b, b'a', out)
 }
 
 // Writes a region of two bytes; where out is shorter, it is left as it is.
-pub fn write_region(a: u8, b: u8, out: &mut [u8]) -> Counted
+pub fn write_region(a: u8, b: u8, out: &mut [u8]) -> Result<Counted, Refusal>
     ensures { counted_outcome result out.new ≡ counting (replacements (region_bytes a b)) (written (region_of a b) out.old) }
 {
     write_unpacked(a, b, b'0', out)

@@ -1,7 +1,7 @@
 -- Laws of languages and regions: each has the value that the grammar's form puts, and what has a value is what the form makes.
 -- Assumes nothing.
 use Prim.Native.Nat.{ℕ, zero, suc, ◌≤◌, ◌<◌}
-use mathlib.Core.Path.{◌≡◌, refl, subst}
+use mathlib.Core.Path.{◌≡◌, refl, sym, subst, ◌∙◌}
 use mathlib.Core.List.{List, [], ◌∷◌}
 use mathlib.Core.Bool.{Bool, true, false, cond, ◌&&◌, true≢false}
 use native.Mathlib.Omega.{arith}
@@ -9,6 +9,7 @@ use native.Mathlib.Decide.{dec_le}
 use lib.Dec.{eqb}
 use lib.ListN.{length, get_or}
 use borrow.Author.Tests.{le-leb, leb-true, eqb-true}
+use Rattle.std.specs.Prelude.{Option, Some, None, SomeIff, IsTrue}
 use Rattle.laws.proofs.Choice.{chosen_by}
 use Rattle.laws.proofs.Tests.{and_both}
 use Rattle.buffer.specs.Ascii.{ascii}
@@ -50,6 +51,16 @@ two_back lo hi a b v e h =
     let p = put_by (within lo hi a && within lo hi b) (letter_pair a b) v e h in
     let q = and_both p.0 in
     record { first = within_says lo hi a q.0; second = within_says lo hi b q.1; puts = p.1 }
+
+-- two bytes that pass the test have their value, where 0 doesn't pass it, and others have none
+pub two_given : (r : Option ℕ) (lo hi a b : ℕ) → 0 < lo → SomeIff r (IsTrue (within lo hi a && within lo hi b)) (letter_pair a b)
+    → SomeIff r (0 < two lo hi a b) (two lo hi a b)
+two_given None lo hi a b low fails = λ h. fails (put_by (within lo hi a && within lo hi b) (letter_pair a b) (two lo hi a b) refl h).0
+two_given (Some x) lo hi a b low passes =
+    let q = and_both passes.0 in
+    let first = within_says lo hi a q.0 in
+    let is = two_forth first (within_says lo hi b q.1) in
+    (omega (arith, is, first.low), passes.1 ∙ sym is)
 
 -- three bytes of lo to hi that put v
 record Three (lo hi a b c v : ℕ) : Type 0 where

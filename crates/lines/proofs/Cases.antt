@@ -9,14 +9,13 @@ use lib.Dec.{eqb}
 use lib.ListN.{length, drop}
 use borrow.Author.Tests.{lt-ltb, le-ltb, le-leb}
 use Rattle.answers.specs.declared.Refusal.{Refusal}
-use Rattle.answers.specs.declared.Written.{Written}
-use Rattle.answers.specs.Tells.{written_tells}
+use Rattle.std.specs.Prelude.{Result, Ok, Err}
+use Rattle.answers.specs.Tells.{told_of}
 use Rattle.buffer.specs.Written.{outcome, written}
 use Rattle.buffer.proofs.Writing.{written_fits}
 use Rattle.record.specs.Ages.{is_age}
 use Rattle.reading.proofs.Whole.{age_known, age_unknown}
 use Rattle.runs.specs.declared.Stop.{Stop}
-use Rattle.runs.specs.declared.Front.{Front}
 use Rattle.runs.specs.Runs.{front_at}
 use Rattle.runs.proofs.Records.{front_fits}
 use Rattle.record_line.specs.LineIn.{line_in}
@@ -27,7 +26,7 @@ use Rattle.lines.specs.Lines.{LineOutcome, age_line, stop_line, line_at, after, 
 use Rattle.lines.proofs.Answers.{went}
 
 -- the empty line is written to any buffer, and none of its bytes changes
-none_written : (c next : Cursor) (old : List ℕ) → lined_outcome (record { answer = Written.Wrote 0; cursor = next }) old ≡ line_written [] c next old
+none_written : (c next : Cursor) (old : List ℕ) → lined_outcome (record { answer = Ok 0; cursor = next }) old ≡ line_written [] c next old
 none_written c next old =
     let h : 0 ≤ length old = omega arith in rw (written_fits [] old h, le-leb 0 (length old) h)
 
@@ -40,14 +39,14 @@ module _ (a i p : ℕ) (s old : List ℕ) where
   came = line_written (line_at a s here) here (after s here) old
 
   -- an index past its offset
-  pub past_offset : p < i → lined_outcome (record { answer = Written.Wrote 0; cursor = Cursor.End }) old ≡ came
+  pub past_offset : p < i → lined_outcome (record { answer = Ok 0; cursor = Cursor.End }) old ≡ came
   unfolding line_at after
   past_offset h = rw (lt-ltb p i h) (none_written here Cursor.End old)
 
-  module _ (h : i ≤ p) (answer : Written) (new : List ℕ) (lined : Lined) where
+  module _ (h : i ≤ p) (answer : Result ℕ Refusal) (new : List ℕ) (lined : Lined) where
     -- a record of n bytes stands there whole
-    pub record_went : true ≡ is_age a → (n : ℕ) → front_at s p ≡ Front.Takes n → outcome answer new ≡ written (line_in a n i p (drop p s)) old
-        → (lined.answer ≡ answer) × (lined.cursor ≡ cond (eqb (written_tells answer).number 0) (Cursor.Record (i + 1) (p + n)) here)
+    pub record_went : true ≡ is_age a → (n : ℕ) → front_at s p ≡ Ok n → outcome answer new ≡ written (line_in a n i p (drop p s)) old
+        → (lined.answer ≡ answer) × (lined.cursor ≡ cond (eqb (told_of answer).number 0) (Cursor.Record (i + 1) (p + n)) here)
         → lined_outcome lined new ≡ came
     unfolding line_at after
     record_went known n e o g =
@@ -56,8 +55,8 @@ module _ (a i p : ℕ) (s old : List ℕ) where
         (went _ old here _ answer new lined (o ∙ ap (λ (w : List ℕ). written w old) (line-is a (drop p s) known i p n f.0 f.1)) g)
 
     -- none does
-    pub stop_went : (stop : Stop) → front_at s p ≡ Front.Stops stop → outcome answer new ≡ written (stop_line p stop) old
-        → (lined.answer ≡ answer) × (lined.cursor ≡ cond (eqb (written_tells answer).number 0) Cursor.End here)
+    pub stop_went : (stop : Stop) → front_at s p ≡ Err stop → outcome answer new ≡ written (stop_line p stop) old
+        → (lined.answer ≡ answer) × (lined.cursor ≡ cond (eqb (told_of answer).number 0) Cursor.End here)
         → lined_outcome lined new ≡ came
     unfolding line_at after
     stop_went stop e o g = rw (le-ltb p i h, e) (went _ old here _ answer new lined o g)
@@ -82,12 +81,12 @@ module _ (a : ℕ) (s : List ℕ) (c : Cursor) (old : List ℕ) where
 
 -- the first line, and behind the last
 module _ (a : ℕ) (s old : List ℕ) where
-  pub start_went : (answer : Written) (new : List ℕ) (lined : Lined) → outcome answer new ≡ written (age_line a) old
-      → (lined.answer ≡ answer) × (lined.cursor ≡ cond (eqb (written_tells answer).number 0) (Cursor.Record 0 0) Cursor.Start)
+  pub start_went : (answer : Result ℕ Refusal) (new : List ℕ) (lined : Lined) → outcome answer new ≡ written (age_line a) old
+      → (lined.answer ≡ answer) × (lined.cursor ≡ cond (eqb (told_of answer).number 0) (Cursor.Record 0 0) Cursor.Start)
       → lined_outcome lined new ≡ line_written (line_at a s Cursor.Start) Cursor.Start (after s Cursor.Start) old
   unfolding line_at after
   start_went answer new lined o g = went _ old Cursor.Start _ answer new lined o g
 
-  pub end_stays : lined_outcome (record { answer = Written.Wrote 0; cursor = Cursor.End }) old ≡ line_written (line_at a s Cursor.End) Cursor.End (after s Cursor.End) old
+  pub end_stays : lined_outcome (record { answer = Ok 0; cursor = Cursor.End }) old ≡ line_written (line_at a s Cursor.End) Cursor.End (after s Cursor.End) old
   unfolding line_at after
   end_stays = none_written Cursor.End Cursor.End old

@@ -14,7 +14,7 @@ use Rattle.record.specs.Table.{Bytes}
 use Rattle.record.specs.Ages.{is_age}
 use Rattle.record.proofs.Twelve.{age_bounds}
 use Rattle.runs.specs.declared.Stop.{Stop}
-use Rattle.runs.specs.declared.Front.{Front}
+use Rattle.std.specs.Prelude.{Result, Ok, Err}
 use Rattle.runs.specs.Fronts.{by_front, offsets_in, end_in, stop_tells}
 use Rattle.runs.specs.Runs.{front_at}
 use Rattle.runs.proofs.Fronts.{standing, takes, stops, offset_next, stop_next, offset_none, stop_here, stop_is}
@@ -78,7 +78,7 @@ module _ (a : ℕ) (s : List ℕ) (known : is_age a ≡ true) (small : length s 
     goes_here = rw (le-ltb p i before)
 
     -- where no record stands whole, the last line
-    stop_last : p ≤ length s → (stop : Stop) → front_at s p ≡ Front.Stops stop → Gives a s (Cursor.Record i p) (stop_line p stop ∷ []) Cursor.End
+    stop_last : p ≤ length s → (stop : Stop) → front_at s p ≡ Err stop → Gives a s (Cursor.Record i p) (stop_line p stop ∷ []) Cursor.End
     stop_last inside stop e =
         let digits = decimal_long 4 p (omega arith) in
         let row = decimal_long 1 (stop_tells stop).carried (omega (arith, ap (λ (z : Stop). (stop_tells z).carried) (stop_is (front_at s) p stop e), stop_carries s p)) in
@@ -93,7 +93,7 @@ module _ (a : ℕ) (s : List ℕ) (known : is_age a ≡ true) (small : length s 
         record_lines a s i (offsets_in k (front_at s) p) ++ (stop_line end.offset end.stop ∷ [])
 
     -- where the run stops at once
-    none : (k i p : ℕ) → i ≤ p → p ≤ length s → (stop : Stop) → front_at s p ≡ Front.Stops stop → Gives a s (Cursor.Record i p) (lines k i p) Cursor.End
+    none : (k i p : ℕ) → i ≤ p → p ≤ length s → (stop : Stop) → front_at s p ≡ Err stop → Gives a s (Cursor.Record i p) (lines k i p) Cursor.End
     unfolding record_lines
     none k i p before inside stop e =
         rw (offset_none (front_at s) p stop e k, stop_here (front_at s) p stop e k, stop_is (front_at s) p stop e) (stop_last i p before inside stop e)

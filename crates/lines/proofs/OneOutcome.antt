@@ -2,7 +2,8 @@
 use Prim.Native.Nat.{ℕ}
 use mathlib.Core.Path.{◌≡◌, sym, ap, ◌∙◌}
 use mathlib.Core.List.{List}
-use Rattle.answers.specs.declared.Written.{Written}
+use Rattle.std.specs.Prelude.{Result, Ok, Err}
+use Rattle.answers.specs.declared.Refusal.{Refusal}
 use Rattle.buffer.specs.Written.{outcome, written}
 use Rattle.buffer.proofs.OneOutcome.{one_outcome}
 use Rattle.runs.specs.declared.Stop.{Stop}
@@ -13,10 +14,10 @@ use Rattle.lines.specs.Lines.{LineOutcome, age_line, stop_line, lined_outcome, l
 pub one_first : {c d : Cursor} → c ≡ Cursor.Start → d ≡ Cursor.Start → c ≡ d
 one_first p q = p ∙ sym q
 
-pub one_age_line : (a : ℕ) (old : List ℕ) {r s : Written} {x y : List ℕ} → outcome r x ≡ written (age_line a) old → outcome s y ≡ written (age_line a) old → (r ≡ s) × (x ≡ y)
+pub one_age_line : (a : ℕ) (old : List ℕ) {r s : Result ℕ Refusal} {x y : List ℕ} → outcome r x ≡ written (age_line a) old → outcome s y ≡ written (age_line a) old → (r ≡ s) × (x ≡ y)
 one_age_line a old p q = one_outcome p q
 
-pub one_stop_line : (offset : ℕ) (stop : Stop) (old : List ℕ) {r s : Written} {x y : List ℕ}
+pub one_stop_line : (offset : ℕ) (stop : Stop) (old : List ℕ) {r s : Result ℕ Refusal} {x y : List ℕ}
     → outcome r x ≡ written (stop_line offset stop) old → outcome s y ≡ written (stop_line offset stop) old → (r ≡ s) × (x ≡ y)
 one_stop_line offset stop old p q = one_outcome p q
 

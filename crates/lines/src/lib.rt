@@ -1,17 +1,17 @@
 #![tactic(auto)]
 // The lines of a listing, one at a time in a lent buffer. Each call looks only at the record at its cursor.
 ghost use Rattle.std.specs.Prelude.{◌≡◌, true, cond, ◌≤◌, eqb, length};
-ghost use Rattle.answers.specs.Tells.{written_tells};
+ghost use Rattle.answers.specs.Tells.{told_of};
 ghost use Rattle.buffer.specs.Put.{Put};
 ghost use Rattle.buffer.specs.Written.{outcome, written};
 ghost use Rattle.record.specs.Ages.{is_age};
 ghost use Rattle.lines.specs.Lines.{after, age_line, line_at, line_of, line_written, lined_outcome, reason_words, stop_line};
 
-use answers::{Refusal, Told, Written};
+use answers::{Refusal, Told};
 use buffer::{decimal_length, put_between, put_byte, put_decimal, put_label};
 use record::Age;
 use record_line::write_line;
-use runs::{Front, Stop, front_at};
+use runs::{Stop, front_at};
 
 // A listing takes no more bytes.
 pub const MOST_BYTES: usize = 65536;
@@ -30,7 +30,7 @@ pub enum Cursor {
 // The answer of a call for a line, and the cursor with which the listing goes on.
 #[derive(Clone, Copy)]
 pub struct Lined {
-    pub answer: Written,
+    pub answer: Result<usize, Refusal>,
     pub cursor: Cursor,
 }
 
@@ -42,13 +42,13 @@ pub fn first() -> Cursor
 }
 
 // Writes the line with the age.
-pub fn age_line(age: Age, out: &mut [u8]) -> Written
+pub fn age_line(age: Age, out: &mut [u8]) -> Result<usize, Refusal>
     ensures { outcome result out.new ≡ written (age_line age.0) out.old }
 {
     if out.len() < 5 + decimal_length(age.0 as u64) {
-        return Written::Refused(Refusal::ShortBuffer);
+        return Err(Refusal::ShortBuffer);
     }
-    Written::Wrote(put_between(b"age ", age.0 as u64, b"\n", 0, out))
+    Ok(put_between(b"age ", age.0 as u64, b"\n", 0, out))
 }
 
 // Puts the number that a stop tells, and behind a 2 the row that it carries.
@@ -75,29 +75,29 @@ fn reason_length(told: Told) -> usize
 }
 
 // Writes the line with the offset where a run stopped, and why.
-pub fn stop_line(offset: usize, stop: Stop, out: &mut [u8]) -> Written
+pub fn stop_line(offset: usize, stop: Stop, out: &mut [u8]) -> Result<usize, Refusal>
     ensures { outcome result out.new ≡ written (stop_line offset stop) out.old }
 {
     let told = stop.told();
     if out.len() < 7 + decimal_length(offset as u64) + reason_length(told) {
-        return Written::Refused(Refusal::ShortBuffer);
+        return Err(Refusal::ShortBuffer);
     }
     let a = put_between(b"stop ", offset as u64, b" ", 0, out);
     let b = put_reason(told, a, out);
-    Written::Wrote(put_byte(b'\n', b, out))
+    Ok(put_byte(b'\n', b, out))
 }
 
 // Goes on at next where a line was written, and stays at a cursor where it was refused.
-fn go_on(answer: Written, cursor: Cursor, next: Cursor) -> Lined
-    ensures { (result.answer ≡ answer) × (result.cursor ≡ cond (eqb (written_tells answer).number 0) next cursor) }
+fn go_on(answer: Result<usize, Refusal>, cursor: Cursor, next: Cursor) -> Lined
+    ensures { (result.answer ≡ answer) × (result.cursor ≡ cond (eqb (told_of answer).number 0) next cursor) }
 {
     match answer {
-        Written::Wrote(n) => Lined {
-            answer: Written::Wrote(n),
+        Ok(n) => Lined {
+            answer: Ok(n),
             cursor: next,
         },
-        Written::Refused(why) => Lined {
-            answer: Written::Refused(why),
+        Err(why) => Lined {
+            answer: Err(why),
             cursor,
         },
     }
@@ -110,13 +110,13 @@ fn line_at(bytes: &[u8], age: Age, index: usize, offset: usize, out: &mut [u8]) 
 {
     if offset < index {
         return Lined {
-            answer: Written::Wrote(0),
+            answer: Ok(0),
             cursor: Cursor::End,
         };
     }
     let here = Cursor::Record { index, offset };
     match front_at(bytes, offset) {
-        Front::Takes(n) => {
+        Ok(n) => {
             let answer = write_line(&bytes[offset..], n, age, index, offset, out);
             let next = Cursor::Record {
                 index: index + 1,
@@ -124,7 +124,7 @@ fn line_at(bytes: &[u8], age: Age, index: usize, offset: usize, out: &mut [u8]) 
             };
             go_on(answer, here, next)
         }
-        Front::Stops(stop) => {
+        Err(stop) => {
             let answer = stop_line(offset, stop, out);
             go_on(answer, here, Cursor::End)
         }
@@ -137,13 +137,13 @@ pub fn line(bytes: &[u8], age: Age, cursor: Cursor, out: &mut [u8]) -> Lined
 {
     if MOST_BYTES < bytes.len() {
         return Lined {
-            answer: Written::Refused(Refusal::TooMuchInput),
+            answer: Err(Refusal::TooMuchInput),
             cursor,
         };
     }
     if !age.is_age() {
         return Lined {
-            answer: Written::Refused(Refusal::NotAnAge),
+            answer: Err(Refusal::NotAnAge),
             cursor,
         };
     }
@@ -161,7 +161,7 @@ pub fn line(bytes: &[u8], age: Age, cursor: Cursor, out: &mut [u8]) -> Lined
         }
         Cursor::Record { index, offset } => line_at(bytes, age, index, offset, out),
         Cursor::End => Lined {
-            answer: Written::Wrote(0),
+            answer: Ok(0),
             cursor: Cursor::End,
         },
     }

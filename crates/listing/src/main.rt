@@ -3,7 +3,7 @@
 // argument is no age, or a read fails, it says so on standard error and prints nothing. Where a write fails, it ends with that error.
 ghost use Rattle.std.specs.Prelude.{◌≤◌, length, IfOk};
 
-use answers::{Refusal, Written};
+use answers::Refusal;
 use lines::{age_line, first, line, stop_line};
 use numbers::number_in;
 use record::Age;
@@ -21,18 +21,17 @@ fn is_given(rt: &impl Env, place: usize) -> bool {
     }
 }
 
-// The age that the arguments give. Where they are other than one decimal number, and where that is too large, it is none of the twelve.
-fn given_age(rt: &impl Env, room: &mut [u8]) -> Age {
+// The age that the arguments give, where they are none or one number that is one of the twelve.
+fn given_age(rt: &impl Env, room: &mut [u8]) -> Option<Age> {
     if !is_given(rt, 1) {
-        return Age::DEFAULT;
+        return Some(Age::DEFAULT);
     }
     if is_given(rt, 2) {
-        return Age(0);
+        return None;
     }
-    match rt.arg(1, room) {
-        Ok(n) => Age(number_in(&room[..n])),
-        Err(_) => Age(0),
-    }
+    let n = rt.arg(1, room).ok()?;
+    let age = Age(u32::from(number_in(&room[..n])?));
+    age.is_age().then_some(age)
 }
 
 // Says that the age is none of the twelve.
@@ -70,10 +69,10 @@ fn print(rt: &impl Print, n: usize, out: &[u8]) -> io::Result<bool> {
 }
 
 // Prints what a call wrote; says whether it wrote something.
-fn print_written(rt: &impl Print, answer: Written, out: &[u8]) -> io::Result<bool> {
+fn print_written(rt: &impl Print, answer: Result<usize, Refusal>, out: &[u8]) -> io::Result<bool> {
     match answer {
-        Written::Wrote(n) => Ok(n != 0 && print(rt, n, out)?),
-        Written::Refused(_) => Ok(false),
+        Ok(n) => Ok(n != 0 && print(rt, n, out)?),
+        Err(_) => Ok(false),
     }
 }
 
@@ -95,8 +94,8 @@ fn print_listing(rt: &impl Print, bytes: &[u8], age: Age, out: &mut [u8]) -> io:
         let answer = lined.answer;
         cursor = lined.cursor;
         match answer {
-            Written::Refused(why) => return print_refused(rt, age, why, out),
-            Written::Wrote(n) => {
+            Err(why) => return print_refused(rt, age, why, out),
+            Ok(n) => {
                 if n == 0 || !print(rt, n, out)? {
                     return Ok(());
                 }
@@ -111,10 +110,9 @@ fn print_listing(rt: &impl Print, bytes: &[u8], age: Age, out: &mut [u8]) -> io:
 fn main(rt: HostRuntime) -> io::Result<()> {
     let mut buffer = [0u8; 65537];
     let mut out = [0u8; 1104];
-    let age = given_age(&rt, &mut buffer);
-    if !age.is_age() {
+    let Some(age) = given_age(&rt, &mut buffer) else {
         return say_no_age(&rt);
-    }
+    };
     let mut input = rt.stdin();
     match fill(&mut input, &mut buffer) {
         Ok(n) => print_listing(&rt, &buffer[..n], age, &mut out),

@@ -11,7 +11,7 @@ ghost use Rattle.locale.specs.Locale.{language, region, begins, has_region, scri
 ghost use Rattle.locale.specs.Tag.{tag_words, tag_replacements};
 ghost use Rattle.locale.specs.Subtags.{language_in, region_in, locale_replacements, text_replacements, where_there};
 
-use answers::{Counted, Refusal, Written};
+use answers::{Counted, Refusal};
 use buffer::put;
 use language::{language_length, put_language, put_region, region_length};
 use record::ResTableConfig;
@@ -273,20 +273,13 @@ fn said_length(r: ResTableConfig) -> usize
 }
 
 // Writes what a record's locale says, as 000 appends it to an empty text; where out is shorter, it is left as it is.
-pub fn write_locale(r: ResTableConfig, out: &mut [u8]) -> Counted
+pub fn write_locale(r: ResTableConfig, out: &mut [u8]) -> Result<Counted, Refusal>
     ensures { counted_outcome result out.new ≡ counting (text_replacements r) (written (locale_text r) out.old) }
 {
     if out.len() < said_length(r) {
-        return Counted {
-            answer: Written::Refused(Refusal::ShortBuffer),
-            replacements: 0,
-        };
+        return Err(Refusal::ShortBuffer);
     }
-    let copied = put_said(r, 0, out);
-    Counted {
-        answer: Written::Wrote(copied.at),
-        replacements: copied.replacements,
-    }
+    Ok(put_said(r, 0, out).into())
 }
 
 // How many replacements the text of a record has. They are counted with no room to write, so nothing is written.

@@ -5,7 +5,7 @@ ghost use Rattle.buffer.specs.Put.{Put};
 ghost use Rattle.buffer.specs.Written.{outcome};
 ghost use Rattle.mark.specs.Word.{bits_of, letters_of, letters_outcome};
 
-use answers::{Refusal, Written};
+use answers::Refusal;
 use buffer::put_byte;
 
 // What a reader of an age can say of a field.
@@ -48,26 +48,24 @@ pub fn put_letters(word: u32, at: usize, out: &mut [u8]) -> usize
     let letters = LETTERS;
     let mut o = at;
     let mut rest = word;
-    let mut i: usize = 0;
-    while i < 14 {
+    for _ in 0..14usize {
         let bits = (rest % 4) as usize;
         o = put_byte(letters[bits], o, out);
         rest /= 4;
-        i += 1;
     }
     o
 }
 
 // Writes the letters of the fourteen marks of a word.
-pub fn write_letters(word: u32, out: &mut [u8]) -> Written
+pub fn write_letters(word: u32, out: &mut [u8]) -> Result<usize, Refusal>
     ensures { outcome result out.new ≡ letters_outcome word out.old }
 {
     if word >= ABOVE {
-        return Written::Refused(Refusal::TopBits);
+        return Err(Refusal::TopBits);
     }
     if out.len() < 14 {
-        return Written::Refused(Refusal::ShortBuffer);
+        return Err(Refusal::ShortBuffer);
     }
     put_letters(word, 0, out);
-    Written::Wrote(14)
+    Ok(14)
 }

@@ -1,4 +1,3 @@
-pub mod HeldAnswer
 pub mod Zeros
 pub mod Marking
 pub mod Former

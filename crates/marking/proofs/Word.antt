@@ -6,7 +6,7 @@ use mathlib.Core.List.{List}
 use native.Mathlib.Omega.{arith}
 use lib.Seq.{ext_get_or}
 use Rattle.answers.specs.declared.Told.{Told}
-use Rattle.answers.specs.Tells.{success, refusal}
+use Rattle.answers.specs.Tells.{success, refusal, told_of}
 use Rattle.buffer.specs.Written.{Outcome, refused}
 use Rattle.mark.specs.declared.Mark.{Mark}
 use Rattle.mark.specs.Word.{bits_of, mark_of_bits, in_one_word, letters_outcome}
@@ -17,11 +17,12 @@ use Rattle.mark.proofs.Exactly.{letters_given}
 use Rattle.record.specs.Ages.{is_age}
 use Rattle.reading.specs.Reading.{if_whole, if_age, taken}
 use Rattle.reading.proofs.Whole.{age_known, whole_map}
-use Rattle.marking.specs.declared.Marked.{Marked}
-use Rattle.marking.specs.Marks.{mark_in, mark_of, word_in, word_of, letters_in, marked_tells, word_told, marks_outcome}
+use Rattle.std.specs.Prelude.{Result, Ok, Err}
+use Rattle.answers.specs.declared.Refusal.{Refusal}
+use Rattle.marking.specs.Marks.{mark_in, mark_of, word_in, word_of, letters_in, word_told, marks_outcome}
 use Rattle.marking.specs.Word.{TopFourZero, BitsOfField, WordFixesMarks, LettersOfWord, EqualBits}
 use Rattle.marking.proofs.Answering.{by_answer}
-use Rattle.marking.proofs.OneOutcome.{one_marked}
+use Rattle.answers.proofs.OneToOne.{answer_one}
 use Rattle.marking.proofs.Marking.{marks_from, field_mark}
 use Rattle.marking.proofs.TwoAges.{same_mark}
 
@@ -74,10 +75,10 @@ equal_bits older newer s r p q f l u k =
     told_bits older s (f - 1) p ∙ ap (if_whole s _) same ∙ sym (told_bits newer s (f - 1) q)
 
 -- what writing the letters comes to, by the answer that gives the word
-abbrev pub letters_by : List ℕ → Marked → Outcome
-letters_by old (Marked.Word word) = letters_outcome word old
-letters_by old (Marked.Refused why) = refused why old
+abbrev pub letters_by : List ℕ → Result ℕ Refusal → Outcome
+letters_by old (Ok word) = letters_outcome word old
+letters_by old (Err why) = refused why old
 
-pub marks_by : (a : ℕ) (s old : List ℕ) (r : Marked) → marked_tells r ≡ word_told a s → marks_outcome a s old ≡ letters_by old r
+pub marks_by : (a : ℕ) (s old : List ℕ) (r : Result ℕ Refusal) → told_of r ≡ word_told a s → marks_outcome a s old ≡ letters_by old r
 marks_by a s old r e =
-    letters_of_word a s old ∙ by_answer marked_tells (λ p q same. one_marked p q same refl) a s Marked.Refused (Marked.Word (word_of a s)) (letters_by old) r e
+    letters_of_word a s old ∙ by_answer told_of answer_one a s Err (Ok (word_of a s)) (letters_by old) r e

@@ -1,15 +1,18 @@
 -- Bytes that are all zero, one by one and by their offsets. Assumes nothing.
-use Prim.Native.Nat.{ℕ, zero, suc, ◌+◌, ◌-◌, ◌≤◌, ◌<◌, min}
+use Prim.Native.Nat.{ℕ, zero, suc, ◌+◌, ◌-◌, ◌<◌, min}
 use mathlib.Core.Path.{◌≡◌, refl, sym, ap, ◌∙◌}
-use mathlib.Core.Bool.{Bool, true, false, ◌&&◌, true≢false}
+use mathlib.Core.Bool.{Bool, true, false, not, ◌&&◌, ◌||◌, true≢false}
 use mathlib.Core.List.{List, [], ◌∷◌}
 use native.Mathlib.Nat.{sub-zero, zero-sub, suc-sub-suc}
 use native.Mathlib.Numerals.{add-one}
 use native.Mathlib.Omega.{arith}
 use lib.Dec.{eqb}
-use lib.ListN.{length, get_or, take, drop, length-take, drop_of_length-le}
-use lib.Seq.{drop-cons, take-nil, get_or-take}
-use borrow.Author.Tests.{eq-eqb, ne_eqb, eqb-true, eqb-false}
+use lib.ListN.{length, get_or, take, drop}
+use lib.Seq.{take-nil}
+use borrow.Author.Tests.{eqb-true, eqb-false}
+use Rattle.std.specs.List.{between, list_any}
+use Rattle.std.proofs.lemmas.List.{take_min}
+use Rattle.std.proofs.lemmas.Slice.{between_is}
 use Rattle.laws.proofs.Tests.{and_both}
 use Rattle.record.specs.Table.{part, all_zero}
 
@@ -20,22 +23,18 @@ drop_take (suc a) zero s = sym (ap (part s (suc a)) (zero-sub (suc a)))
 drop_take (suc a) (suc t) [] = sym (take-nil (suc t - suc a))
 drop_take (suc a) (suc t) (x ∷ s) = drop_take a t s ∙ ap (part s a) (sym (suc-sub-suc t a))
 
--- the search for a byte that isn't zero: at offset i, and past the last
-module _ (s : List ℕ) (n i : ℕ) where
-  front : i < min n (length s) → drop i (take n s) ≡ get_or s i 0 ∷ drop (i + 1) (take n s)
-  front h =
-      let l : i < length (take n s) = omega (arith, length-take n s) in
-      let k : i < n = omega arith in
-      rw (drop-cons (take n s) i 0 l, get_or-take n s i 0 k, add-one)
+-- neither of two is both
+or_of_not : (a b : Bool) → (not a || not b) ≡ not (a && b)
+or_of_not true b = refl
+or_of_not false b = refl
 
-  pub zero_here : i < min n (length s) → get_or s i 0 ≡ 0 → all_zero (drop i (take n s)) ≡ all_zero (drop (i + 1) (take n s))
-  zero_here h e = rw (front h, eq-eqb (get_or s i 0) 0 e)
+-- a byte that isn't zero, sought in the part from a on of the first n bytes
+some_late : (l : List ℕ) → list_any (λ b. not (eqb b 0)) l ≡ not (all_zero l)
+some_late [] = refl
+some_late (b ∷ l) = rw (some_late l) (or_of_not (eqb b 0) (all_zero l))
 
-  pub found_here : i < min n (length s) → (get_or s i 0 ≡ 0 → ⊥) → all_zero (drop i (take n s)) ≡ false
-  found_here h e = rw (front h, ne_eqb (get_or s i 0) 0 e)
-
-  pub none_left : min n (length s) ≤ i → all_zero (drop i (take n s)) ≡ true
-  none_left h = let l : length (take n s) ≤ i = omega (arith, length-take n s) in rw (drop_of_length-le (take n s) l)
+pub late_between : (s : List ℕ) (n a e : ℕ) → e ≡ min n (length s) → list_any (λ b. not (eqb b 0)) (between a e s) ≡ not (all_zero (drop a (take n s)))
+late_between s n a e h = some_late (between a e s) ∙ ap (λ (l : List ℕ). not (all_zero l)) (between_is s a e ∙ ap (drop a) (rw h (take_min n s)))
 
 -- a byte that isn't zero
 pub record Found (l : List ℕ) : Type 0 where

@@ -1,14 +1,13 @@
 -- 01, "Ages, marks, runs", and 02, K8: the fourteen marks, and which records are held back. Assumes nothing.
-use Rattle.std.specs.Prelude.{ℕ, ◌-◌, List, [], ◌∷◌, map, Bool, not, cond, ltb, take, drop}
+use Rattle.std.specs.Prelude.{ℕ, ◌-◌, List, [], ◌∷◌, map, Bool, not, cond, ltb, take, drop, Result}
+use Rattle.answers.specs.declared.Refusal.{Refusal}
 use Rattle.answers.specs.declared.Told.{Told}
-use Rattle.answers.specs.Tells.{success, refusal}
+use Rattle.answers.specs.Tells.{success, refusal, tells}
 use Rattle.buffer.specs.Written.{Outcome, written, refused}
 use Rattle.mark.specs.declared.Mark.{Mark}
 use Rattle.mark.specs.Word.{in_one_word, letters_of}
 use Rattle.record.specs.Table.{start_of, end_of, part, all_zero}
 use Rattle.reading.specs.Reading.{taken, if_whole, if_age}
-use Rattle.marking.specs.declared.Held.{Held}
-use Rattle.marking.specs.declared.Marked.{Marked}
 
 -- the mark of a field that goes from start to end, in a record of t bytes at the front of s, for a reader of age a: unknown when its
 -- end is past a; else absent when the record doesn't hold it; else blank when its bytes are all zero; else filled
@@ -40,11 +39,6 @@ word_of a s = word_in a (taken s) s
 abbrev pub marks_of : ℕ → List ℕ → List ℕ
 marks_of a s = letters_in a (taken s) s
 
--- what the answer with a record's marks tells: a refusal's number; else 0, and the word as its amount
-abbrev pub marked_tells : Marked → Told
-marked_tells (Marked.Word word) = success word
-marked_tells (Marked.Refused why) = refusal why
-
 -- giving the marks in one word: 3, 1, 2 or 8
 abbrev pub word_told : ℕ → List ℕ → Told
 word_told a s = if_age a refusal (if_whole s refusal (success (word_of a s)))
@@ -62,10 +56,8 @@ unfoldable pub held_back : ℕ → List ℕ → Bool
 held_back a s = late_bytes s (taken s) a
 
 -- what the answer whether a record is held back tells: a refusal's number; else 0, and 1 for yes or 0 for no as its amount
-abbrev pub held_tells : Held → Told
-held_tells Held.No = success 0
-held_tells Held.Yes = success 1
-held_tells (Held.Refused why) = refusal why
+abbrev pub held_tells : Result Bool Refusal → Told
+held_tells answer = tells (λ yes. cond yes 1 0) answer
 
 -- asking whether a record is held back: 3, 1, 2 or 8, then yes or no
 abbrev pub held_of : ℕ → List ℕ → Told

@@ -2,7 +2,7 @@
 use Prim.Native.Nat.{ℕ, suc, ◌+◌, ◌-◌, ◌≤◌, ◌<◌}
 use mathlib.Core.Path.{◌≡◌, refl, sym, ap, ◌∙◌}
 use mathlib.Core.List.{List, [], ◌∷◌}
-use mathlib.Core.Bool.{true, false, cond, not}
+use mathlib.Core.Bool.{Bool, true, false, cond, not, true≢false}
 use native.Mathlib.Omega.{arith}
 use native.Mathlib.Numerals.{add-one}
 use native.Mathlib.Decide.{dec_le}
@@ -10,6 +10,9 @@ use lib.Dec.{leb, eqb}
 use lib.ListN.{length, get_or, take, drop, set, length-drop}
 use lib.Seq.{take_all, drop-drop, length-take-le}
 use borrow.Author.Tests.{eq-eqb, ne_eqb, eqb-false, not-true}
+use Rattle.std.specs.Bool.{then_some}
+use Rattle.std.specs.Option.{SomeIff}
+use Rattle.std.proofs.Common.{Option}
 use Rattle.laws.proofs.Choice.{chosen_by}
 use Rattle.laws.proofs.Tests.{and_both}
 use Rattle.answers.specs.declared.Refusal.{Refusal}
@@ -118,6 +121,24 @@ may_value next f e =
   where
     some : (n : ℕ) → (n ≡ 0 → ⊥) → 1 ≤ n
     some n h = omega arith
+
+-- what has a value may stand where its slot is free
+stands_in : (next : ℕ) (f : Found) → 0 < f.value → may next f ≡ cond (eqb f.slot slot.region) (eqb next slot.region) (leb next f.slot)
+unfolding may
+stands_in next f h = rw (ne_eqb f.value 0 (λ e. omega arith))
+
+-- a part that is kept where it may stand
+kept_if : (b : Bool) (next : ℕ) (f : Found) {r : Option Found} → may next f ≡ b → r ≡ then_some b f → SomeIff r (may next f ≡ true) f
+kept_if true next f m q = rw q (m, refl)
+kept_if false next f m q = rw q (λ h. true≢false (sym h ∙ m))
+
+-- of what has a value, a region
+pub stands_region : (next : ℕ) (f g : Found) {r : Option Found} → (0 < g.value) × (f ≡ g) → f.slot ≡ slot.region → r ≡ then_some (eqb next slot.region) f → SomeIff r (may next g ≡ true) g
+stands_region next f g (h, e) i q = kept_if (eqb next slot.region) next g (stands_in next g h ∙ rw (← e, eq-eqb f.slot slot.region i)) (rw e at q)
+
+-- and any other part
+pub stands_later : (next : ℕ) (f g : Found) {r : Option Found} → (0 < g.value) × (f ≡ g) → (f.slot ≡ slot.region → ⊥) → r ≡ then_some (leb next f.slot) f → SomeIff r (may next g ≡ true) g
+stands_later next f g (h, e) n q = kept_if (leb next g.slot) next g (stands_in next g h ∙ rw (← e, ne_eqb f.slot slot.region n)) (rw e at q)
 
 -- its slot is one of the twenty-five
 pub may_slot : (next : ℕ) (p : List ℕ) → may next (recognised p) ≡ true → (recognised p).slot ≤ 24

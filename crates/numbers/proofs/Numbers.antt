@@ -9,6 +9,9 @@ use native.Mathlib.Numerals.{add-one}
 use lib.ListN.{length, get_or, drop, drop_of_length-le}
 use lib.Seq.{drop-cons}
 use borrow.Author.Tests.{lt-ltb, le-ltb, le-leb, lt-leb, eq-eqb, ne_eqb}
+use Rattle.std.specs.Option.{SomeIff}
+use Rattle.std.specs.Result.{OkIff, result_ok}
+use Rattle.std.proofs.Common.{Option, Some, None, Result, Ok, Err}
 use Rattle.buffer.specs.Decimal.{decimal}
 use Rattle.buffer.proofs.Digits.{decimal_one, decimal_more}
 use Rattle.numbers.specs.Numbers.{none, further, further_all, leading_zero, number_in}
@@ -46,6 +49,16 @@ further_cases P n b f g =
 
 pub further_most : (n b : ℕ) → further n b ≤ 65536
 further_most n b = further_cases (λ m. m ≤ 65536) n b (λ l h f. omega arith) (omega arith)
+
+-- what a success holds
+pub kept_ok : {E : Type 0} (P : Type 0) (v : ℕ) (r : Result ℕ E) → OkIff r P v → SomeIff (result_ok r) P v
+kept_ok P v (Ok x) h = h
+kept_ok P v (Err e) h = h
+
+-- one more digit, as far as there are 16 bits
+pub further_is : (n b : ℕ) (r : Option ℕ) → 48 ≤ b → b ≤ 57 → SomeIff r (n * 10 + (b - 48) < 65536) (n * 10 + (b - 48)) → SomeIff r (further n b ≤ 65535) (further n b)
+further_is n b None l h e = λ g. let f : 65535 < n * 10 + (b - 48) = omega (arith, e) in omega (arith, g, further_large n b l h f)
+further_is n b (Some x) l h e = let f = further_fits n b l h (omega (arith, e.0)) in (omega (arith, e.0, f), e.1 ∙ f)
 
 -- none is kept
 lost : (n b : ℕ) → 65536 ≤ n → further n b ≡ none
@@ -155,6 +168,11 @@ number_is s h f = rw (ne_eqb (length s) 0 h, f)
 pub further_at : (s : List ℕ) (i n : ℕ) → i < length s → further_all n (drop i s) ≡ further_all (further n (get_or s i 0)) (drop (i + 1) s)
 unfolding further_all
 further_at s i n h = rw (drop-cons s i 0 h, add-one)
+
+pub further_lost : (s : List ℕ) (i n : ℕ) → i < length s → (further n (get_or s i 0) ≤ 65535 → ⊥) → further_all n (drop i s) ≡ none
+further_lost s i n h f =
+    let e : further n (get_or s i 0) ≡ none = omega (arith, f, further_most n (get_or s i 0)) in
+    further_at s i n h ∙ rw e (kept_none (drop (i + 1) s))
 
 pub further_end : (s : List ℕ) (i n : ℕ) → length s ≤ i → further_all n (drop i s) ≡ n
 unfolding further_all

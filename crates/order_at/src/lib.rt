@@ -6,15 +6,17 @@ ghost use Rattle.order_at.specs.OrderAt.{order_at, plain_at};
 
 use order::{Ordering, cmp};
 use reading::{lesser, parse};
-use record::ResTableConfig;
+use record::{ResTableConfig, blank};
 
 // The record at an offset, plainly parsed; it holds nothing where no whole one stands.
 pub fn record_at(bytes: &[u8], offset: usize) -> ResTableConfig
     ensures { result ≡ plain_at bytes.now offset }
 {
     let from = lesser(offset, bytes.len());
-    let parsed = parse(&bytes[from..]);
-    parsed.record
+    match parse(&bytes[from..]) {
+        Ok(parsed) => parsed.record,
+        Err(_) => blank(),
+    }
 }
 
 // A byte as a word.
@@ -63,15 +65,13 @@ fn first_apart(bytes: &[u8], p: usize, q: usize, limit: usize, from: usize, to: 
     requires { ((from ≤ to) × (to ≤ 16)) × ((limit ≤ length bytes.now - p) × (limit ≤ length bytes.now - q)) }
     ensures { FirstApart (drop p bytes.now) (drop q bytes.now) limit from to result }
 {
-    let mut f = from;
-    while f < to {
+    for f in from..to {
         if limit < 4 * f + 4 {
             return to;
         }
         if word_at(bytes, p, f) != word_at(bytes, q, f) {
             return f;
         }
-        f += 1;
     }
     to
 }

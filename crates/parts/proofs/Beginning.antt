@@ -2,16 +2,14 @@
 use Prim.Native.Nat.{ℕ, ◌≤◌}
 use mathlib.Core.Path.{◌≡◌, refl, sym, ap, ◌∙◌}
 use mathlib.Core.List.{List, [], ◌∷◌, ◌++◌}
-use mathlib.Core.Bool.{Bool, true, false, cond, true≢false}
+use mathlib.Core.Bool.{Bool, true, false, true≢false}
 use mathlib.Core.Logic.{◌⊎◌}
 use native.Mathlib.Omega.{arith}
 use native.Mathlib.Decide.{dec_le}
-use lib.Dec.{eqb}
 use lib.ListN.{length, get_or, length-append}
 use borrow.Author.Tests.{eq-eqb, ne_eqb, le-leb}
 use Rattle.buffer.specs.Ascii.{ascii}
 use Rattle.buffer.specs.Decimal.{decimal}
-use Rattle.laws.proofs.Arms.{RestAfter, Rest, still}
 use Rattle.numbers.specs.Numbers.{number_in}
 use Rattle.numbers.proofs.Numbers.{digit_first}
 use Rattle.grammar.specs.Forms.{Form, Makes}
@@ -23,7 +21,7 @@ use Rattle.letters.proofs.Letters.{language_short}
 use Rattle.forms.specs.Values.{number_value, number_before, density_value, pair_value, minor_value}
 use Rattle.forms.proofs.Values.{between_back}
 use Rattle.parts.specs.Recognised.{value_in, in_slot, nothing, first_of, recognised}
-use Rattle.parts.specs.Beginning.{is_digit, class_of, head_of, leads, beginning, found_by}
+use Rattle.parts.specs.Beginning.{class_of, head_of, leads, beginning, found_by}
 use Rattle.parts.proofs.Gives.{makes}
 
 -- a digit's class
@@ -89,74 +87,9 @@ head_is : (s : List ℕ) → (length s ≡ 0 → ⊥) → head_of s ≡ class_of
 head_is [] h = absurd (h refl)
 head_is (b ∷ s) h = refl
 
--- the same by the first byte, where it is no digit
-pub recognised_at : (s : List ℕ) → (length s ≡ 0 → ⊥) → language_value s ≡ 0 → is_digit (get_or s 0 0) ≡ false → found_by (get_or s 0 0) s ≡ recognised s
-recognised_at s h l d = recognised_by (get_or s 0 0) s l (head_is s h ∙ rw d)
-
--- and where it is one
-pub recognised_digit : (s : List ℕ) → (length s ≡ 0 → ⊥) → language_value s ≡ 0 → is_digit (get_or s 0 0) ≡ true → found_by 48 s ≡ recognised s
-recognised_digit s h l d = recognised_by 48 s l (head_is s h ∙ rw d)
-
--- the letters with which parts begin that are no language, with '0' for the digits
-abbrev pub letters : List ℕ
-letters = 48 ∷ 97 ∷ 99 ∷ 100 ∷ 102 ∷ 104 ∷ 107 ∷ 108 ∷ 109 ∷ 110 ∷ 112 ∷ 113 ∷ 114 ∷ 115 ∷ 116 ∷ 118 ∷ 119 ∷ 120 ∷ []
-
--- whether n is one of some numbers
-one_of : List ℕ → ℕ → Bool
-one_of [] n = false
-one_of (a ∷ l) n = cond (eqb n a) true (one_of l n)
-
--- whether every row begins with one of some classes, or is a language
-led : List ℕ → List Row → Bool
-led l [] = true
-led l ((s, Form.number front back) ∷ rs) = cond (one_of l (head_of front)) (led l rs) false
-led l ((s, Form.density) ∷ rs) = cond (one_of l 48) (led l rs) false
-led l ((s, Form.sides) ∷ rs) = cond (one_of l 48) (led l rs) false
-led l ((s, Form.minor) ∷ rs) = cond (one_of l 118) (led l rs) false
-led l ((s, Form.language) ∷ rs) = led l rs
-led l ((s, Form.region) ∷ rs) = cond (one_of l 114) (led l rs) false
-led l ((s, Form.word v w) ∷ rs) = cond (one_of l (head_of w)) (led l rs) false
-
--- a byte of no such class isn't what a row begins with
-apart : (l : List ℕ) (x k : ℕ) → one_of l x ≡ true → one_of l k ≡ false → eqb x k ≡ false
-apart l x k p q = ne_eqb x k (λ e. true≢false (sym p ∙ ap (one_of l) e ∙ q))
-
--- both hold where the second is asked for only if the first holds
-both : (b c : Bool) → cond b c false ≡ true → (b ≡ true) × (c ≡ true)
-both true c e = (refl, e)
-both false c e = absurd (true≢false (sym e))
-
--- so no row begins with it
-none_led : (l : List ℕ) (k : ℕ) (rs : List Row) → one_of l k ≡ false → led l rs ≡ true → beginning k rs ≡ []
-unfolding beginning led
-none_led l k [] g h = refl
-none_led l k ((s, Form.number front back) ∷ rs) g h =
-    let q = both (one_of l (head_of front)) (led l rs) h in rw (apart l (head_of front) k q.0 g) (none_led l k rs g q.1)
-none_led l k ((s, Form.density) ∷ rs) g h = let q = both (one_of l 48) (led l rs) h in rw (apart l 48 k q.0 g) (none_led l k rs g q.1)
-none_led l k ((s, Form.sides) ∷ rs) g h = let q = both (one_of l 48) (led l rs) h in rw (apart l 48 k q.0 g) (none_led l k rs g q.1)
-none_led l k ((s, Form.minor) ∷ rs) g h = let q = both (one_of l 118) (led l rs) h in rw (apart l 118 k q.0 g) (none_led l k rs g q.1)
-none_led l k ((s, Form.language) ∷ rs) g h = none_led l k rs g h
-none_led l k ((s, Form.region) ∷ rs) g h = let q = both (one_of l 114) (led l rs) h in rw (apart l 114 k q.0 g) (none_led l k rs g q.1)
-none_led l k ((s, Form.word v w) ∷ rs) g h =
-    let q = both (one_of l (head_of w)) (led l rs) h in rw (apart l (head_of w) k q.0 g) (none_led l k rs g q.1)
-
--- every row of the table begins with one of them, or is a language
-all_led : led letters rows ≡ true
-unfolding led one_of rows kind_rows word_rows word_row
-all_led = refl
-
--- what a last arm knows of its number
-rest_none : (known : Type 0) (l : List ℕ) (n : ℕ) → RestAfter known n l → one_of l n ≡ false
-unfolding one_of
-rest_none known [] n h = refl
-rest_none known (a ∷ l) n h = let more = known × (n ≡ a → ⊥) in rw (ne_eqb n a (still more n l h).1) (rest_none more l n h)
-
--- so nothing is found among the rows of another letter
-pub none_found : (b : ℕ) (s : List ℕ) → Rest b letters → nothing ≡ found_by b s
-unfolding first_of
-none_found b s r =
-    let z : beginning b rows ≡ [] = none_led letters b rows (rest_none (Unit {0}) letters b r) all_led in
-    sym (ap (λ (rs : List Row). first_of rs s) z)
+-- the same by the first byte
+pub recognised_first : (s : List ℕ) → (length s ≡ 0 → ⊥) → language_value s ≡ 0 → found_by (class_of (get_or s 0 0)) s ≡ recognised s
+recognised_first s h l = recognised_by (class_of (get_or s 0 0)) s l (head_is s h)
 
 -- nothing is no part
 pub recognised_empty : (s : List ℕ) → length s ≡ 0 → nothing ≡ recognised s

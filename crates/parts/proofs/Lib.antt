@@ -1,3 +1,2 @@
 pub mod Gives
 pub mod Beginning
-pub mod Chain

@@ -3,7 +3,6 @@
 // places, so that some are tested by their word first.
 //
 // `put_text` is machinery: it stops at the buffer's end and refuses nothing.
-mod kind_places;
 mod put;
 
 ghost use Rattle.std.specs.Prelude.{take, drop};
@@ -12,10 +11,11 @@ ghost use Rattle.locale.specs.Subtags.{text_replacements};
 ghost use Rattle.places.specs.Say.{Says};
 ghost use Rattle.places.specs.Places.{places_of, text_of};
 
-use kind_places::{
-    density_place, keyboard_place, keys_hidden_place, nav_hidden_place, navigation_place,
-    orientation_place, touchscreen_place, ui_mode_night_place, ui_mode_place,
+use kinds::{
+    Density, Keyboard, KeysHidden, NavHidden, Navigation, Orientation, Touchscreen, UIMode,
+    UIModeNight,
 };
+use places::kind_place;
 use places_first::put_first;
 use put::{pixel_place, version_place};
 use record::ResTableConfig;
@@ -27,9 +27,9 @@ fn places_from_13(r: ResTableConfig, at: usize, out: &mut [u8]) -> usize
 {
     let screen = r.get_orientation_touchscreen_density();
     let layout = r.get_screen_layout_ui_smallest_width();
-    let a = orientation_place(screen.orientation, at, out);
-    let b = ui_mode_place(layout.ui_mode, a, out);
-    ui_mode_night_place(layout.ui_mode, b, out)
+    let a = kind_place(Orientation::from(screen.orientation), at, out);
+    let b = kind_place(UIMode::from(layout.ui_mode), a, out);
+    kind_place(UIModeNight::from(layout.ui_mode), b, out)
 }
 
 // Places 16 and 17: density and touch, of `screen_type`.
@@ -40,8 +40,8 @@ fn places_from_16(r: ResTableConfig, at: usize, out: &mut [u8]) -> usize
         return at;
     }
     let screen = r.get_orientation_touchscreen_density();
-    let a = density_place(screen.density, at, out);
-    touchscreen_place(screen.touchscreen, a, out)
+    let a = kind_place(Density::from(screen.density), at, out);
+    kind_place(Touchscreen::from(screen.touchscreen), a, out)
 }
 
 // Places 18 to 21: keys and navigation, of `generic_purpose_field`.
@@ -52,10 +52,10 @@ fn places_from_18(r: ResTableConfig, at: usize, out: &mut [u8]) -> usize
         return at;
     }
     let input = r.get_keyboard_navigation_input_flags();
-    let a = keys_hidden_place(input.input_flags, at, out);
-    let b = keyboard_place(input.keyboard, a, out);
-    let c = nav_hidden_place(input.input_flags, b, out);
-    navigation_place(input.navigation, c, out)
+    let a = kind_place(KeysHidden::from(input.input_flags), at, out);
+    let b = kind_place(Keyboard::from(input.keyboard), a, out);
+    let c = kind_place(NavHidden::from(input.input_flags), b, out);
+    kind_place(Navigation::from(input.navigation), c, out)
 }
 
 // Puts the text of a record at the front of out.

@@ -3,7 +3,6 @@
 // its places, so that some are tested by their word first.
 //
 // `put_first` is machinery: it stops at the buffer's end and refuses nothing.
-mod kind_places;
 mod put;
 
 ghost use Rattle.std.specs.Prelude.{[], ◌≡◌, take, drop};
@@ -12,10 +11,10 @@ ghost use Rattle.locale.specs.Subtags.{text_replacements};
 ghost use Rattle.places.specs.Say.{Says, say_all};
 ghost use Rattle.places.specs.Places.{places_of};
 
-use kind_places::{
-    grammatical_gender_place, hdr_place, layout_dir_place, screen_long_place, screen_round_place,
-    screen_size_place, wide_color_gamut_place,
+use kinds::{
+    GrammaticalGender, Hdr, LayoutDir, ScreenLong, ScreenRound, ScreenSize, WideColorGamut,
 };
+use places::kind_place;
 use put::{dp_place, label_place, locale_place};
 use record::ResTableConfig;
 use subtag::Copied;
@@ -26,12 +25,12 @@ fn places_from_0(r: ResTableConfig, at: usize, out: &mut [u8]) -> Copied
     ensures replacements_value { result.replacements ≡ text_replacements r }
 {
     let codes = r.get_mcc_mnc();
-    let gender = r.get_grammatical_inflection();
+    let gender = GrammaticalGender::from(r.get_grammatical_inflection());
     let a = label_place(b"mcc", codes.mcc, at, out);
     let b = label_place(b"mnc", codes.mnc, a, out);
     let locale = locale_place(r, b, out);
     Copied {
-        at: grammatical_gender_place(gender, locale.at, out),
+        at: kind_place(gender, locale.at, out),
         replacements: locale.replacements,
     }
 }
@@ -42,7 +41,7 @@ fn places_from_4(r: ResTableConfig, at: usize, out: &mut [u8]) -> usize
 {
     let layout = r.get_screen_layout_ui_smallest_width();
     let dp = r.get_screen_width_height_dp();
-    let a = layout_dir_place(layout.screen_layout, at, out);
+    let a = kind_place(LayoutDir::from(layout.screen_layout), at, out);
     let b = dp_place(b"sw", layout.smallest_screen_width_dp, a, out);
     let c = dp_place(b"w", dp.screen_width_dp, b, out);
     dp_place(b"h", dp.screen_height_dp, c, out)
@@ -56,8 +55,8 @@ fn places_from_8(r: ResTableConfig, at: usize, out: &mut [u8]) -> usize
         return at;
     }
     let layout = r.get_screen_layout_ui_smallest_width();
-    let a = screen_size_place(layout.screen_layout, at, out);
-    screen_long_place(layout.screen_layout, a, out)
+    let a = kind_place(ScreenSize::from(layout.screen_layout), at, out);
+    kind_place(ScreenLong::from(layout.screen_layout), a, out)
 }
 
 // Places 10 to 12: round, wide gamut and HDR, of `screen_config_2`.
@@ -68,9 +67,9 @@ fn places_from_10(r: ResTableConfig, at: usize, out: &mut [u8]) -> usize
         return at;
     }
     let second = r.get_screen_layout_2_color_mode();
-    let a = screen_round_place(second.screen_layout_2, at, out);
-    let b = wide_color_gamut_place(second.color_mode, a, out);
-    hdr_place(second.color_mode, b, out)
+    let a = kind_place(ScreenRound::from(second.screen_layout_2), at, out);
+    let b = kind_place(WideColorGamut::from(second.color_mode), a, out);
+    kind_place(Hdr::from(second.color_mode), b, out)
 }
 
 // Puts places 0 to 12 at the front of out. The locale is among them, and with it all that is replaced.

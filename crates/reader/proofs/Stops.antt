@@ -14,7 +14,7 @@ use Rattle.answers.specs.declared.Refusal.{Refusal}
 use Rattle.answers.specs.Tells.{refusal}
 use Rattle.record.specs.Ages.{default_age, is_age}
 use Rattle.reading.specs.Reading.{if_whole}
-use Rattle.runs.specs.declared.Front.{Front}
+use Rattle.std.specs.Prelude.{Result, Ok, Err}
 use Rattle.runs.specs.declared.Stop.{Stop}
 use Rattle.runs.specs.Runs.{step_of, step_stays}
 use Rattle.runs.proofs.Along.{Run, Steps, inside, finds_none}
@@ -31,7 +31,7 @@ pub front_age : (b : Bor (List ℕ)) → ((reader_of b).age.0 ≡ default_age) �
 front_age b = (refl, default_known)
 
 -- with its offset past the bytes a reader stops at that offset with 1: what stands there is what stands in no bytes
-pub past_along : {s : List ℕ} {run : Run s} {a : ℕ} (by : Steps run a) → run.here [] ≡ Front.Stops (Stop.Refused Refusal.TooFewBytes)
+pub past_along : {s : List ℕ} {run : Run s} {a : ℕ} (by : Steps run a) → run.here [] ≡ Err (Stop.Refused Refusal.TooFewBytes)
     → true ≡ is_age a → (p : ℕ) → length s < p → by.step p ≡ step_stays p (refusal Refusal.TooFewBytes)
 past_along {s} {run} by none known p past =
     finds_none by known p _ (inside run p (λ e. omega arith) ∙ ap run.here (drop_of_length-le s {i = p} (omega arith)) ∙ none)

@@ -11,3 +11,4 @@ pub mod OneOutcome
 pub mod Exactly
 pub mod TwoAges
 pub mod Examples
+pub mod Going

@@ -8,11 +8,13 @@ use native.Mathlib.Decide.{dec_lt}
 use lib.Dec.{ltb}
 use lib.ListN.{length}
 use borrow.Author.Tests.{lt-ltb, le-ltb}
+use Rattle.laws.proofs.Choice.{chosen}
 use Rattle.answers.specs.declared.Refusal.{Refusal}
 use Rattle.answers.specs.declared.Told.{Told}
 use Rattle.answers.specs.Tells.{success, refusal}
 use Rattle.answers.proofs.OneToOne.{told_one, number_pos}
-use Rattle.record.specs.Ages.{is_age}
+use Rattle.std.specs.Prelude.{Result, Ok, Err}
+use Rattle.record.specs.Ages.{is_age, end_of_age}
 use Rattle.reading.specs.Cut.{lacking}
 use Rattle.reading.specs.Reading.{if_whole, if_age, size_of, taken, take_of}
 
@@ -67,6 +69,15 @@ pub age_map : {A B : Type 0} (f : A → B) (a : ℕ) (refuse : Refusal → A) (g
 unfolding if_age
 age_map f a refuse give = cond_map f (is_age a) give (refuse Refusal.NotAnAge)
 
+-- what is given whatever happens
+pub whole_same : {A : Type 0} (s : List ℕ) (x : A) → if_whole s (λ why. x) x ≡ x
+unfolding if_whole
+whole_same s x = chosen (λ y. y ≡ x) (ltb (length s) 16) refl (chosen (λ y. y ≡ x) (ltb (length s) (size_of s)) refl refl)
+
+pub age_same : {A : Type 0} (a : ℕ) (x : A) → if_age a (λ why. x) x ≡ x
+unfolding if_age
+age_same a x = chosen (λ y. y ≡ x) (is_age a) refl refl
+
 -- an age, and a number that is none
 module _ {A : Type 0} (a : ℕ) (refuse : Refusal → A) (give : A) where
   pub age_known : true ≡ is_age a → if_age a refuse give ≡ give
@@ -76,6 +87,27 @@ module _ {A : Type 0} (a : ℕ) (refuse : Refusal → A) (give : A) where
   pub age_unknown : false ≡ is_age a → if_age a refuse give ≡ refuse Refusal.NotAnAge
   unfolding if_age
   age_unknown h = rw (← h)
+
+-- the end of an age is given of one of the twelve alone, and is the age itself
+known_by : (a n : ℕ) (b : Bool) → b ≡ is_age a → ◌≡◌ {A = Result ℕ Refusal} (Ok n) (cond b (Ok a) (Err Refusal.NotAnAge)) → (true ≡ is_age a) × (n ≡ a)
+known_by a n true h e = (h, cc)
+known_by a n false h e = absurd cc
+
+unknown_by : (a : ℕ) (why : Refusal) (b : Bool) → b ≡ is_age a → ◌≡◌ {A = Result ℕ Refusal} (Err why) (cond b (Ok a) (Err Refusal.NotAnAge))
+    → (false ≡ is_age a) × (why ≡ Refusal.NotAnAge)
+unknown_by a why true h e = absurd cc
+unknown_by a why false h e = (h, cc)
+
+pub end_known : (a n : ℕ) → Ok n ≡ end_of_age a → (true ≡ is_age a) × (n ≡ a)
+end_known a n e = known_by a n (is_age a) refl e
+
+-- else the refusal is 3
+pub end_unknown : (a : ℕ) (why : Refusal) → Err why ≡ end_of_age a → (false ≡ is_age a) × (why ≡ Refusal.NotAnAge)
+end_unknown a why e = unknown_by a why (is_age a) refl e
+
+-- a call that asks for the end of an age first
+pub age_refused : {A : Type 0} (a : ℕ) (refuse : Refusal → A) (give : A) (why : Refusal) → Err why ≡ end_of_age a → if_age a refuse give ≡ refuse why
+age_refused a refuse give why e = let u = end_unknown a why e in rw u.1 (age_unknown a refuse give u.0)
 
 -- T bytes are there, and n is T
 pub took_is : (s : List ℕ) (n : ℕ) → n ≡ taken s → taken s ≤ length s → success n ≡ take_of s

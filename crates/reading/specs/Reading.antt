@@ -1,8 +1,8 @@
 -- 01, "The record" and "Ages, marks, runs": what parsing gives, plain and at an age. Assumes nothing.
-use Rattle.std.specs.Prelude.{ℕ, List, Bool, not, cond, ◌&&◌, ◌||◌, leb, ltb, length, replicate}
+use Rattle.std.specs.Prelude.{ℕ, List, Bool, not, cond, ◌&&◌, ◌||◌, leb, ltb, length, replicate, Result, Ok, Err}
 use Rattle.answers.specs.declared.Refusal.{Refusal}
 use Rattle.answers.specs.declared.Told.{Told}
-use Rattle.answers.specs.Tells.{success, refusal, taken_tells}
+use Rattle.answers.specs.Tells.{success, refusal}
 use Rattle.record.specs.declared.ResTableConfig.{ResTableConfig}
 use Rattle.record.specs.Ages.{is_age}
 use Rattle.record.specs.Blank.{blank_record}
@@ -75,10 +75,6 @@ pub record ParseOutcome : Type 0 where
   pub tells : Told
   pub gives : ResTableConfig
 
--- what an answer and its record come to
-abbrev pub parsed_outcome : Parsed → ParseOutcome
-parsed_outcome parsed = record { tells = taken_tells parsed.answer; gives = parsed.«record» }
-
 -- n bytes are taken, and a record is given
 abbrev pub parse_took : ℕ → ResTableConfig → ParseOutcome
 parse_took n r = record { tells = success n; gives = r }
@@ -86,6 +82,11 @@ parse_took n r = record { tells = success n; gives = r }
 -- nothing is taken, and the record that goes along holds nothing
 abbrev pub parse_refused : Refusal → ParseOutcome
 parse_refused why = record { tells = refusal why; gives = blank_record }
+
+-- what an answer comes to: the bytes that are taken, and the record
+abbrev pub parsed_outcome : Result Parsed Refusal → ParseOutcome
+parsed_outcome (Ok parsed) = parse_took parsed.taken parsed.«record»
+parsed_outcome (Err why) = parse_refused why
 
 -- parsing
 abbrev pub parse_of : List ℕ → ParseOutcome

@@ -3,18 +3,18 @@
 mod fields;
 
 ghost use Rattle.std.specs.Prelude.{◌≡◌, min};
-ghost use Rattle.answers.specs.Tells.{taken_tells};
+ghost use Rattle.answers.specs.Tells.{told_of};
 ghost use Rattle.reading.specs.Cut.{cut_at, lacking};
 ghost use Rattle.reading.specs.Reading.{aged, take_of, if_whole, parse_aged, parse_of, parse_refused, parse_took, parsed_outcome, taken};
 ghost use Rattle.reading.specs.ReadTo.{read_to};
 
-use answers::{Refusal, Taken};
-use record::{Age, ResTableConfig, blank, field_end};
+use answers::Refusal;
+use record::{Age, ResTableConfig, field_end};
 
-// The answer of parsing, beside the record, which holds nothing where the answer is a refusal.
+// What parsing gives: how many bytes the record takes, and the record.
 #[derive(Clone, Copy)]
 pub struct Parsed {
-    pub answer: Taken,
+    pub taken: usize,
     pub record: ResTableConfig,
 }
 
@@ -30,39 +30,33 @@ fn is_cut(n: usize, size: usize, f: usize) -> bool
 fn lacking(n: usize, size: usize) -> Refusal
     ensures { result ≡ lacking n size }
 {
-    let mut row = 0;
-    while row < 15 {
+    for row in 0..15 {
         if is_cut(n, size, row) {
             return Refusal::FieldCut(row);
         }
-        row += 1;
     }
     Refusal::UndecodedCut
 }
 
 // How many bytes the record at the front of bytes takes.
-pub fn take(bytes: &[u8]) -> Taken
-    ensures { taken_tells result ≡ take_of bytes.now }
+pub fn take(bytes: &[u8]) -> Result<usize, Refusal>
+    ensures { told_of result ≡ take_of bytes.now }
 {
     if bytes.len() < 16 {
-        return Taken::Refused(Refusal::TooFewBytes);
+        return Err(Refusal::TooFewBytes);
     }
     let size = fields::word(bytes, 0) as usize;
     if bytes.len() < size {
-        return Taken::Refused(lacking(bytes.len(), size));
+        return Err(lacking(bytes.len(), size));
     }
-    if size < 16 {
-        Taken::Took(16)
-    } else {
-        Taken::Took(size)
-    }
+    Ok(size.max(16))
 }
 
 // The lesser of two numbers.
 pub fn lesser(a: usize, b: usize) -> usize
     ensures { result ≡ min a b }
 {
-    if a < b { a } else { b }
+    a.min(b)
 }
 
 // The record of the fields that end within a limit and within the bytes, for a caller who knows that a whole record stands at the
@@ -73,47 +67,26 @@ pub fn read_to(bytes: &[u8], limit: usize) -> ResTableConfig
     fields::record_to(bytes, lesser(limit, bytes.len()))
 }
 
-// What a refused parse gives.
-pub fn refused_parse(why: Refusal) -> Parsed
-    ensures { parsed_outcome result ≡ parse_refused why }
-{
-    let record = blank();
-    Parsed {
-        answer: Taken::Refused(why),
-        record,
-    }
-}
-
 // Parses for a reader that knows a record up to the offset age.
-fn parse_to(bytes: &[u8], age: usize) -> Parsed
+fn parse_to(bytes: &[u8], age: usize) -> Result<Parsed, Refusal>
     ensures { parsed_outcome result ≡ if_whole bytes.now parse_refused (parse_took (taken bytes.now) (aged age bytes.now)) }
 {
-    match take(bytes) {
-        Taken::Took(n) => {
-            let record = fields::record_to(bytes, lesser(n, age));
-            Parsed {
-                answer: Taken::Took(n),
-                record,
-            }
-        }
-        Taken::Refused(why) => refused_parse(why),
-    }
+    let taken = take(bytes)?;
+    let record = fields::record_to(bytes, lesser(taken, age));
+    Ok(Parsed { taken, record })
 }
 
 // Parses the record at the front of bytes.
-pub fn parse(bytes: &[u8]) -> Parsed
+pub fn parse(bytes: &[u8]) -> Result<Parsed, Refusal>
     ensures { parsed_outcome result ≡ parse_of bytes.now }
 {
     parse_to(bytes, 64)
 }
 
 // Parses the record at the front of bytes for a reader of an age.
-pub fn parse_aged(bytes: &[u8], age: Age) -> Parsed
+pub fn parse_aged(bytes: &[u8], age: Age) -> Result<Parsed, Refusal>
     ensures { parsed_outcome result ≡ parse_aged age.0 bytes.now }
 {
-    if age.is_age() {
-        parse_to(bytes, age.0 as usize)
-    } else {
-        refused_parse(Refusal::NotAnAge)
-    }
+    let end = age.end()?;
+    parse_to(bytes, end)
 }

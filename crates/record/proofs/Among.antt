@@ -1,23 +1,22 @@
--- The search for a number among some, from a row on. Assumes nothing.
-use Prim.Native.Nat.{ℕ, ◌+◌, ◌≤◌, ◌<◌}
-use mathlib.Core.Path.{◌≡◌, sym}
-use mathlib.Core.Bool.{true, false}
-use mathlib.Core.List.{List}
-use native.Mathlib.Numerals.{add-one}
-use lib.ListN.{length, get_or, drop, drop_of_length-le}
-use lib.Seq.{drop-cons}
+-- A number among some, as the library's search finds it. Assumes nothing.
+use Prim.Native.Nat.{ℕ}
+use mathlib.Core.Path.{◌≡◌, refl, sym}
+use mathlib.Core.List.{List, [], ◌∷◌}
+use native.Mathlib.Decide.{ℕ_discrete}
+use lib.Dec.{eqb}
 use borrow.Author.Tests.{eq-eqb, ne_eqb}
+use Rattle.std.specs.List.{list_any}
 use Rattle.record.specs.Ages.{among}
 
-module _ (n : ℕ) (l : List ℕ) (f : ℕ) where
-  -- it stands in row f
-  pub among_here : f < length l → get_or l f 0 ≡ n → among n (drop f l) ≡ true
-  among_here h e = rw (drop-cons l f 0 h, eq-eqb n (get_or l f 0) (sym e))
+-- equal, in either order
+turned : (a n : ℕ) → eqb a n ≡ eqb n a
+turned a n =
+    elim (ℕ_discrete a n) [
+      | yes e ↦ rw (eq-eqb a n e, eq-eqb n a (sym e))
+      | no d ↦ rw (ne_eqb a n d, ne_eqb n a (λ e. d (sym e)))
+    ]
 
-  -- it doesn't, so it is among those behind or not at all
-  pub among_behind : f < length l → (get_or l f 0 ≡ n → ⊥) → among n (drop f l) ≡ among n (drop (f + 1) l)
-  among_behind h e = rw (drop-cons l f 0 h, add-one, ne_eqb n (get_or l f 0) (λ q. e (sym q)))
-
-  -- no number is left
-  pub among_none : length l ≤ f → among n (drop f l) ≡ false
-  among_none h = rw (drop_of_length-le l h)
+-- whether one of some numbers is this one
+pub any_among : (n : ℕ) (l : List ℕ) → list_any (λ a. eqb a n) l ≡ among n l
+any_among n [] = refl
+any_among n (a ∷ l) = rw (turned a n, any_among n l)

@@ -1,5 +1,6 @@
 -- 01, "Ages, marks, runs": the twelve ages. Assumes nothing.
-use Rattle.std.specs.Prelude.{ℕ, List, [], ◌∷◌, Bool, false, ◌||◌, eqb}
+use Rattle.std.specs.Prelude.{ℕ, List, [], ◌∷◌, Bool, false, ◌||◌, cond, eqb, Result, Ok, Err}
+use Rattle.answers.specs.declared.Refusal.{Refusal}
 
 -- the twelve ages
 abbrev pub ages : List ℕ
@@ -17,3 +18,7 @@ is_age n = among n ages
 -- the age of a reader that is given none
 abbrev pub default_age : ℕ
 default_age = 52
+
+-- the offset up to which a reader of age a knows a record; 3 comes where a is not among the twelve
+abbrev pub end_of_age : ℕ → Result ℕ Refusal
+end_of_age a = cond (is_age a) (Ok a) (Err Refusal.NotAnAge)

@@ -168,7 +168,7 @@ impl ResTableConfig {
     pub fn set_density(mut self, density: Density) -> ResTableConfig
         ensures { result ≡ with_density self density }
     {
-        let n = density.number();
+        let n = u16::from(density);
         self.screen_type = self.screen_type % 65536 + (n as u32) * 65536;
         self
     }

@@ -1,8 +1,9 @@
 // The ages of readers: where what a reader knows of a record ends.
 ghost use Rattle.std.specs.Prelude.{◌≡◌, get_or};
-ghost use Rattle.record.specs.Ages.{ages, is_age};
+ghost use Rattle.record.specs.Ages.{ages, end_of_age, is_age};
 
 use crate::ENDS;
+use answers::Refusal;
 
 // An age: one of the twelve constants, or a number that is refused.
 #[derive(Clone, Copy)]
@@ -52,16 +53,18 @@ impl Age {
     pub fn is_age(self) -> bool
         ensures { result ≡ is_age self.0 }
     {
-        let age = self.0 as usize;
-        let ends = ENDS;
-        let mut f = 3;
-        while f < 15 {
-            if ends[f] == age {
-                return true;
-            }
-            f += 1;
+        ENDS[3..].contains(&(self.0 as usize))
+    }
+
+    // The offset up to which a reader of the age knows a record; an age that is none of the twelve is refused.
+    pub fn end(self) -> Result<usize, Refusal>
+        ensures { result ≡ end_of_age self.0 }
+    {
+        if self.is_age() {
+            Ok(self.0 as usize)
+        } else {
+            Err(Refusal::NotAnAge)
         }
-        false
     }
 
     // The age in a row of the twelve, counted from 0 by rising age, and 0, which is none, past the last.

@@ -1,7 +1,7 @@
 -- The bytes of a text as a line shows them, one by one and all. Assumes nothing.
 use Prim.Native.Nat.{ℕ, suc, ◌+◌, ◌-◌, ◌*◌, ◌/◌, ◌%◌, ◌≤◌, ◌<◌}
 use mathlib.Core.Path.{◌≡◌, refl, sym}
-use mathlib.Core.Bool.{true, false, not}
+use mathlib.Core.Bool.{Bool, true, false, not, cond}
 use mathlib.Core.List.{List, [], ◌∷◌, ◌++◌, append_assoc, append-nil}
 use native.Mathlib.Omega.{arith}
 use native.Mathlib.Decide.{dec_le}
@@ -9,6 +9,8 @@ use lib.Dec.{eqb, leb}
 use lib.ListN.{length, get_or, take, length-append}
 use lib.Seq.{take-suc, take_all}
 use borrow.Author.Tests.{le-leb, lt-leb}
+use Rattle.std.specs.Prelude.{count_by}
+use Rattle.std.proofs.lemmas.List.Sums.{sum_by-cons}
 use Rattle.laws.proofs.Choice.{chosen}
 use Rattle.buffer.specs.Ascii.{ascii}
 use Rattle.buffer.specs.Put.{Put}
@@ -54,13 +56,6 @@ pub escaped_all_lem : {o : List ℕ} {at : ℕ} (w : List ℕ) {n : List ℕ} {r
     → length w ≤ j → Put o at (escaped_all (take j w)) n r → Put o at (escaped_all w) n r
 escaped_all_lem w j h p = rw take_all at p
 
--- how long the first of them are with one byte more
-pub turn_length : (w : List ℕ) (j : ℕ) → j < length w
-    → length (escaped_all (take (suc j) w)) ≡ length (escaped_all (take j w)) + length (escaped (get_or w j 0))
-unfolding escaped_all
-turn_length w j h =
-    rw (take-suc w j 0 h, escaped_append (take j w) (get_or w j 0 ∷ []), append-nil) (length-append (escaped_all (take j w)) (escaped (get_or w j 0)))
-
 -- a byte is shown in three at the most, and in one at the least
 pub byte_long : (b : ℕ) → length (escaped b) ≤ 3
 unfolding escaped
@@ -79,6 +74,23 @@ pub escaped_least : (w : List ℕ) → length w ≤ length (escaped_all w)
 unfolding escaped_all
 escaped_least [] = omega arith
 escaped_least (b ∷ w) = omega (arith, length-append (escaped b) (escaped_all w), byte_least b, escaped_least w)
+
+-- a byte that doesn't stand as it is takes two more
+escaped_count : (b : ℕ) → length (escaped b) ≡ 1 + 2 * cond (not (visible b)) 1 0
+unfolding escaped
+escaped_count b = chosen_not (visible b)
+  where
+    chosen_not : (t : Bool) → length (cond t (b ∷ []) (37 ∷ hex_digit (b / 16) ∷ hex_digit (b % 16) ∷ [])) ≡ 1 + 2 * cond (not t) 1 0
+    chosen_not true = refl
+    chosen_not false = refl
+
+pub hidden_count : (w : List ℕ) → length (escaped_all w) ≡ length w + 2 * count_by (λ b. not (visible b)) w
+unfolding escaped_all
+hidden_count [] = refl
+hidden_count (b ∷ w) =
+    let one : count_by (λ c. not (visible c)) (b ∷ w) ≡ cond (not (visible b)) 1 0 + count_by (λ c. not (visible c)) w =
+    sum_by-cons (λ c. cond (not (visible c)) 1 0) b w in
+    omega (arith, length-append (escaped b) (escaped_all w), escaped_count b, hidden_count w)
 
 -- a text that takes n bytes, and two for each of k, by the room that the n leave
 pub hidden_fits : (k n m room : ℕ) → m ≡ n + 2 * k → n ≤ room → leb k ((room - n) / 2) ≡ leb m room

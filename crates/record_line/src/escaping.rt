@@ -38,10 +38,8 @@ pub fn put_escaped(text: &[u8], at: usize, out: &mut [u8]) -> usize
     ensures { Put out.old at (escaped_all text.now) out.new result }
 {
     let mut o = at;
-    let mut j = 0;
-    while j < text.len() {
-        o = put_shown_byte(text[j], o, out);
-        j += 1;
+    for &b in text {
+        o = put_shown_byte(b, o, out);
     }
     o
 }
@@ -59,27 +57,11 @@ pub(crate) fn put_shown_text(held: bool, text: &[u8], at: usize, out: &mut [u8])
     put_escaped(text, at, out)
 }
 
-// 1 for a byte of a text that takes two bytes more than itself, 0 for one that stands as it is.
-fn hidden(b: u8) -> usize
-    ensures { length (escaped b) ≡ 1 + 2 * result }
-{
-    if is_visible(b) {
-        return 0;
-    }
-    1
-}
-
 // How many bytes of a text don't stand as they are.
 fn hidden_in(text: &[u8]) -> usize
     ensures { length (escaped_all text.now) ≡ length text.now + 2 * result }
 {
-    let mut n = 0;
-    let mut j = 0;
-    while j < text.len() {
-        n += hidden(text[j]);
-        j += 1;
-    }
-    n
+    text.iter().filter(|b| !is_visible(**b)).count()
 }
 
 // Whether a text fits into so many bytes of room, or "%!" where it is held back. A byte takes one to three, so that its bytes are

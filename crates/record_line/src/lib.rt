@@ -13,7 +13,7 @@ ghost use Rattle.places.specs.Places.{text_of};
 ghost use Rattle.record_line.specs.RecordLine.{laid_out, record_line_of, replacements_unless, shown_unless, space};
 ghost use Rattle.record_line.specs.LineIn.{line_in};
 
-use answers::{Refusal, Taken, Written};
+use answers::Refusal;
 use buffer::{decimal_length, put_between, put_byte, put_decimal};
 pub use escaping::put_escaped;
 use escaping::{put_shown_text, shown_fits};
@@ -102,7 +102,7 @@ pub fn write_line(
     index: usize,
     offset: usize,
     out: &mut [u8],
-) -> Written
+) -> Result<usize, Refusal>
     ensures { outcome result out.new ≡ written (line_in age.0 t index offset bytes.now) out.old }
 {
     let known = age.0 as usize;
@@ -119,20 +119,22 @@ pub fn write_line(
     };
     let text = &own[..copied.at];
     if !row_fits(row, text, out.len()) {
-        return Written::Refused(Refusal::ShortBuffer);
+        return Err(Refusal::ShortBuffer);
     }
-    Written::Wrote(put_row(row, text, bytes, t, known, out))
+    Ok(put_row(row, text, bytes, t, known, out))
 }
 
 // Writes the line of the record at the front of bytes, for a reader of an age, as the record of an index at an offset.
-pub fn record_line(bytes: &[u8], age: Age, index: usize, offset: usize, out: &mut [u8]) -> Written
+pub fn record_line(
+    bytes: &[u8],
+    age: Age,
+    index: usize,
+    offset: usize,
+    out: &mut [u8],
+) -> Result<usize, Refusal>
     ensures { outcome result out.new ≡ record_line_of age.0 index offset bytes.now out.old }
 {
-    if !age.is_age() {
-        return Written::Refused(Refusal::NotAnAge);
-    }
-    match take(bytes) {
-        Taken::Took(t) => write_line(bytes, t, age, index, offset, out),
-        Taken::Refused(why) => Written::Refused(why),
-    }
+    age.end()?;
+    let taken = take(bytes)?;
+    write_line(bytes, taken, age, index, offset, out)
 }

@@ -6,6 +6,7 @@
 // and of these calls' refusals two have more than their number: 2 the row of the field that is cut, 11 the offset of a part. A refusal
 // changes no lent byte. Ages arrive as plain numbers.
 ghost use Rattle.std.specs.Prelude.{◌≡◌};
+ghost use Rattle.answers.specs.Tells.{tells, told_of};
 ghost use Rattle.chunk.specs.Chunk.{chunk_marks, chunk_take, chunk_text, head_outcome};
 ghost use Rattle.finding.specs.Finding.{find_told};
 ghost use Rattle.index.specs.Index.{index_written};
@@ -19,7 +20,7 @@ ghost use Rattle.text.specs.Text.{aged_text, plain_text};
 ghost use Rattle.res_table_config.specs.Face.{answer_outcome, answer_tells, order_told};
 ghost use Rattle.res_table_config.specs.Small.{Small};
 
-use answers::Told;
+use answers::{Amount, Refusal, Told};
 use chunk::{chunk_head, chunk_marks, chunk_text, take_chunk};
 use finding::find_in;
 use index::index;
@@ -36,12 +37,12 @@ fn are_bytes(bytes: &[u8])
     ensures { Bytes bytes.now }
 {}
 
-// What a call tells as one number, from which it comes back.
-fn packed(told: Told) -> u64
-    requires { Small told }
-    ensures { answer_tells result ≡ told }
+// What an answer tells as one number, from which it comes back.
+fn packed<A: Amount + Drop>(answer: Result<A, Refusal>) -> u64
+    requires { Small (tells A.amount_of answer) }
+    ensures { answer_tells result ≡ tells A.amount_of answer }
 {
-    told.packed()
+    Told::from(answer).packed()
 }
 
 // How many bytes the record at the front of bytes takes.
@@ -50,8 +51,7 @@ pub extern "C" fn res_table_config_take(bytes: &[u8]) -> u64
     ensures { answer_tells result ≡ take_of bytes.now }
 {
     are_bytes(bytes);
-    let answer = take(bytes);
-    packed(answer.told())
+    packed(take(bytes))
 }
 
 // Writes the plain text of the record at the front of bytes.
@@ -60,9 +60,7 @@ pub extern "C" fn res_table_config_text(bytes: &[u8], out: &mut [u8]) -> u64
     ensures { answer_outcome result out.new ≡ plain_text bytes.now out.old }
 {
     are_bytes(bytes);
-    let counted = plain_text(bytes, out);
-    let answer = counted.answer;
-    packed(answer.told())
+    packed(plain_text(bytes, out))
 }
 
 // Writes the text of the record at the front of bytes for a reader of an age; a record that is held back at it is refused.
@@ -71,9 +69,7 @@ pub extern "C" fn res_table_config_aged_text(bytes: &[u8], age: u32, out: &mut [
     ensures { answer_outcome result out.new ≡ aged_text age bytes.now out.old }
 {
     are_bytes(bytes);
-    let counted = aged_text(bytes, Age(age), out);
-    let answer = counted.answer;
-    packed(answer.told())
+    packed(aged_text(bytes, Age(age), out))
 }
 
 // How many replacements the text of the record at the front of bytes has for a reader of an age.
@@ -82,8 +78,7 @@ pub extern "C" fn res_table_config_replaced(bytes: &[u8], age: u32) -> u64
     ensures { answer_tells result ≡ replacements_of age bytes.now }
 {
     are_bytes(bytes);
-    let answer = replacements(bytes, Age(age));
-    packed(answer.told())
+    packed(replacements(bytes, Age(age)))
 }
 
 // Writes the letters of the fourteen marks of the record at the front of bytes, for a reader of an age.
@@ -91,8 +86,7 @@ pub extern "C" fn res_table_config_replaced(bytes: &[u8], age: u32) -> u64
 pub extern "C" fn res_table_config_marks(bytes: &[u8], age: u32, out: &mut [u8]) -> u64
     ensures { answer_outcome result out.new ≡ marks_outcome age bytes.now out.old }
 {
-    let answer = marks(bytes, Age(age), out);
-    packed(answer.told())
+    packed(marks(bytes, Age(age), out))
 }
 
 // The fourteen marks of the record at the front of bytes, for a reader of an age, in one word.
@@ -100,8 +94,7 @@ pub extern "C" fn res_table_config_marks(bytes: &[u8], age: u32, out: &mut [u8])
 pub extern "C" fn res_table_config_marks_word(bytes: &[u8], age: u32) -> u64
     ensures { answer_tells result ≡ word_told age bytes.now }
 {
-    let answer = marks_word(bytes, Age(age));
-    packed(answer.told())
+    packed(marks_word(bytes, Age(age)))
 }
 
 // Writes the letters of the fourteen marks of a word.
@@ -109,8 +102,16 @@ pub extern "C" fn res_table_config_marks_word(bytes: &[u8], age: u32) -> u64
 pub extern "C" fn res_table_config_marks_letters(word: u32, out: &mut [u8]) -> u64
     ensures { answer_outcome result out.new ≡ letters_outcome word out.old }
 {
-    let answer = write_letters(word, out);
-    packed(answer.told())
+    packed(write_letters(word, out))
+}
+
+// The number of the order of the records at the front of a and of b.
+fn order_in(a: &[u8], b: &[u8]) -> Result<u32, Refusal>
+    ensures { told_of result ≡ order_told a.now b.now }
+{
+    let first = parse(a)?;
+    let second = parse(b)?;
+    Ok(cmp(first.record, second.record).number())
 }
 
 // The order of the records at the front of a and of b: 0 for Less, 1 for Equal, 2 for Greater.
@@ -118,22 +119,7 @@ pub extern "C" fn res_table_config_marks_letters(word: u32, out: &mut [u8]) -> u
 pub extern "C" fn res_table_config_order(a: &[u8], b: &[u8]) -> u64
     ensures { answer_tells result ≡ order_told a.now b.now }
 {
-    let parsed_a = parse(a);
-    let answer_a = parsed_a.answer;
-    let told_a = answer_a.told();
-    if told_a.number != 0 {
-        return packed(told_a);
-    }
-    let parsed_b = parse(b);
-    let answer_b = parsed_b.answer;
-    let told_b = answer_b.told();
-    if told_b.number != 0 {
-        return packed(told_b);
-    }
-    let first = parsed_a.record;
-    let second = parsed_b.record;
-    let order = cmp(first, second);
-    order.number() as u64
+    packed(order_in(a, b))
 }
 
 // Writes the index of the run at the front of bytes: an entry for each distinct record, in rising order.
@@ -141,9 +127,7 @@ pub extern "C" fn res_table_config_order(a: &[u8], b: &[u8]) -> u64
 pub extern "C" fn res_table_config_index(bytes: &[u8], out: &mut [u8]) -> u64
     ensures { answer_outcome result out.new ≡ index_written bytes.now out.old }
 {
-    let indexed = index(bytes, out);
-    let answer = indexed.answer;
-    packed(answer.told())
+    packed(index(bytes, out).answer)
 }
 
 // Finds the entry of the record at the front of bytes: 1 + its place among the entries, and 0 where there is none.
@@ -151,8 +135,7 @@ pub extern "C" fn res_table_config_index(bytes: &[u8], out: &mut [u8]) -> u64
 pub extern "C" fn res_table_config_find(entries: &[u8], bytes: &[u8]) -> u64
     ensures { answer_tells result ≡ find_told entries.now bytes.now }
 {
-    let answer = find_in(entries, bytes);
-    packed(answer.told())
+    packed(find_in(entries, bytes))
 }
 
 // Writes the 64 bytes of the record for which a directory name stands.
@@ -160,8 +143,7 @@ pub extern "C" fn res_table_config_find(entries: &[u8], bytes: &[u8]) -> u64
 pub extern "C" fn res_table_config_named(name: &[u8], out: &mut [u8]) -> u64
     ensures { answer_outcome result out.new ≡ name_written name.now out.old }
 {
-    let answer = write_name(name, out);
-    packed(answer.told())
+    packed(write_name(name, out))
 }
 
 // How far it is from the type chunk at the front of bytes to the next one.
@@ -170,8 +152,7 @@ pub extern "C" fn res_table_type_take(bytes: &[u8]) -> u64
     ensures { answer_tells result ≡ chunk_take bytes.now }
 {
     are_bytes(bytes);
-    let answer = take_chunk(bytes);
-    packed(answer.told())
+    packed(take_chunk(bytes))
 }
 
 // Writes id, flags, entry count and entries start of the type chunk at the front of bytes, as they are stored.
@@ -179,8 +160,7 @@ pub extern "C" fn res_table_type_take(bytes: &[u8]) -> u64
 pub extern "C" fn res_table_type_head(bytes: &[u8], out: &mut [u8]) -> u64
     ensures { answer_outcome result out.new ≡ head_outcome bytes.now out.old }
 {
-    let answer = chunk_head(bytes, out);
-    packed(answer.told())
+    packed(chunk_head(bytes, out))
 }
 
 // Writes the text of the record of the type chunk at the front of bytes for a reader of an age.
@@ -189,9 +169,7 @@ pub extern "C" fn res_table_type_aged_text(bytes: &[u8], age: u32, out: &mut [u8
     ensures { answer_outcome result out.new ≡ chunk_text age bytes.now out.old }
 {
     are_bytes(bytes);
-    let counted = chunk_text(bytes, Age(age), out);
-    let answer = counted.answer;
-    packed(answer.told())
+    packed(chunk_text(bytes, Age(age), out))
 }
 
 // Writes the fourteen marks of the record of the type chunk at the front of bytes, for a reader of an age.
@@ -199,6 +177,5 @@ pub extern "C" fn res_table_type_aged_text(bytes: &[u8], age: u32, out: &mut [u8
 pub extern "C" fn res_table_type_marks(bytes: &[u8], age: u32, out: &mut [u8]) -> u64
     ensures { answer_outcome result out.new ≡ chunk_marks age bytes.now out.old }
 {
-    let answer = chunk_marks(bytes, Age(age), out);
-    packed(answer.told())
+    packed(chunk_marks(bytes, Age(age), out))
 }

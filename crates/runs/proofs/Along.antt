@@ -15,38 +15,38 @@ use Rattle.record.specs.Ages.{is_age}
 use Rattle.record.specs.Blank.{blank_record}
 use Rattle.reading.proofs.Whole.{age_known, age_unknown}
 use Rattle.runs.specs.declared.Stop.{Stop}
-use Rattle.runs.specs.declared.Front.{Front}
+use Rattle.std.specs.Prelude.{Result, Ok, Err}
 use Rattle.runs.specs.Fronts.{StepOutcome, front_in, offsets_in, stop_in, stop_tells, stop_at, step_by, finds, found, finds_in, stands_in}
 use Rattle.runs.specs.Runs.{most, step_in, step_stays}
 use Rattle.runs.proofs.Fronts.{Stopped, Whole, Within, Walked, goes_on, stops_in, few_in, each_in, stop_is, finds_in_lem, stands_in_lem, step_takes, step_stops, step_none}
 
 -- two fronts are told apart by what they take
-bytes_of : Front → ℕ
-bytes_of (Front.Takes n) = suc n
-bytes_of (Front.Stops stop) = zero
+bytes_of : Result ℕ Stop → ℕ
+bytes_of (Ok n) = suc n
+bytes_of (Err stop) = zero
 
-pub takes_one : (m n : ℕ) → Front.Takes m ≡ Front.Takes n → m ≡ n
+pub takes_one : (m n : ℕ) → ◌≡◌ {A = Result ℕ Stop} (Ok m) (Ok n) → m ≡ n
 unfolding bytes_of
 takes_one m n e = let z = ap bytes_of e in omega arith
 
-pub not_both : (stop : Stop) (n : ℕ) → Front.Stops stop ≡ Front.Takes n → ⊥
+pub not_both : (stop : Stop) (n : ℕ) → ◌≡◌ {A = Result ℕ Stop} (Err stop) (Ok n) → ⊥
 unfolding bytes_of
 not_both stop n e = let z = ap bytes_of e in omega arith
 
 -- what stands takes 16 bytes or more, and all of them are there
-abbrev pub Fits : (List ℕ → Front) → Type 0
-Fits here = (t : List ℕ) (n : ℕ) → here t ≡ Front.Takes n → (16 ≤ n) × (n ≤ length t)
+abbrev pub Fits : (List ℕ → Result ℕ Stop) → Type 0
+Fits here = (t : List ℕ) (n : ℕ) → here t ≡ Ok n → (16 ≤ n) × (n ≤ length t)
 
 -- a run of s: what stands at the front of some bytes, and so at each offset of s
 pub record Run (s : List ℕ) : Type 0 where
-  pub here : List ℕ → Front
-  pub front : ℕ → Front
+  pub here : List ℕ → Result ℕ Stop
+  pub front : ℕ → Result ℕ Stop
   pub is : (p : ℕ) → front p ≡ front_in here s p
   pub fits : Fits here
 
 module _ {s : List ℕ} (run : Run s) where
   -- the exact end
-  pub at_end : (p : ℕ) → p ≡ length s → run.front p ≡ Front.Stops Stop.Ended
+  pub at_end : (p : ℕ) → p ≡ length s → run.front p ≡ Err Stop.Ended
   at_end p e = run.is p ∙ rw (eq-eqb p (length s) e)
 
   -- elsewhere it goes by the bytes from the offset on
@@ -54,19 +54,19 @@ module _ {s : List ℕ} (run : Run s) where
   inside p h = run.is p ∙ rw (ne_eqb p (length s) h)
 
   -- what holds of the exact end, and of what stands elsewhere, holds of each offset
-  pub by_place : (P : Front → Type 0) (p : ℕ) → P (Front.Stops Stop.Ended) → P (run.here (drop p s)) → P (run.front p)
+  pub by_place : (P : Result ℕ Stop → Type 0) (p : ℕ) → P (Err Stop.Ended) → P (run.here (drop p s)) → P (run.front p)
   by_place P p ended there = by (eqb p (length s)) refl where
     by : (b : Bool) → eqb p (length s) ≡ b → P (run.front p)
     by true t = rw (at_end p (eqb-true p (length s) t)) ended
     by false t = rw (inside p (eqb-false p (length s) t)) there
 
   -- what stands at the front of the bytes there stands there
-  pub stands_at : (p n : ℕ) → run.here (drop p s) ≡ Front.Takes n → run.front p ≡ Front.Takes n
+  pub stands_at : (p n : ℕ) → run.here (drop p s) ≡ Ok n → run.front p ≡ Ok n
   stands_at p n e = let f = run.fits (drop p s) n e in inside p (λ q. omega (arith, f, length-drop p s)) ∙ e
 
   -- what takes n bytes stands at the front of the bytes there
-  pub takes_there : (p n : ℕ) → run.front p ≡ Front.Takes n → run.here (drop p s) ≡ Front.Takes n
-  takes_there p n = by_place (λ f. f ≡ Front.Takes n → run.here (drop p s) ≡ Front.Takes n) p (λ e. absurd (not_both _ n e)) (λ e. e)
+  pub takes_there : (p n : ℕ) → run.front p ≡ Ok n → run.here (drop p s) ≡ Ok n
+  takes_there p n = by_place (λ f. f ≡ Ok n → run.here (drop p s) ≡ Ok n) p (λ e. absurd (not_both _ n e)) (λ e. e)
 
   pub within : Within (length s) run.front
   within p n e = let f = run.fits (drop p s) n (takes_there p n e) in (f.0, omega (arith, f, length-drop p s))
@@ -84,7 +84,7 @@ module _ {s : List ℕ} (run : Run s) where
   each p i h = let w = each_in run.front (most s) p i h in record { amount = w.amount; takes = takes_there _ w.amount w.takes }
 
   -- a turn of the walk over what stands at its offset
-  pub turn : {p q c n : ℕ} → Walked run.front (most s) p q c → run.front q ≡ Front.Takes n → Walked run.front (most s) p (q + n) (c + 1)
+  pub turn : {p q c n : ℕ} → Walked run.front (most s) p q c → run.front q ≡ Ok n → Walked run.front (most s) p (q + n) (c + 1)
   turn {p} {q} {c} {n} w e = let f = within q n e in goes_on run.front (most s) p q c n w e f.0 (omega (arith, f, w.room))
 
 -- a reader that steps along a run at age a
@@ -103,10 +103,10 @@ module _ {s : List ℕ} {run : Run s} {a : ℕ} (by : Steps run a) where
     follows : (p : ℕ) → by.step p ≡ step_by run.front blank_record by.read p
     follows p = by.steps p ∙ age_known a _ _ known
 
-    pub finds_one : (p n : ℕ) → run.front p ≡ Front.Takes n → by.step p ≡ finds (p + n) (by.read p)
+    pub finds_one : (p n : ℕ) → run.front p ≡ Ok n → by.step p ≡ finds (p + n) (by.read p)
     finds_one p n e = step_takes run.front blank_record by.read by.step follows p n e
 
-    pub finds_none : (p : ℕ) (stop : Stop) → run.front p ≡ Front.Stops stop → by.step p ≡ step_stays p (stop_tells stop)
+    pub finds_none : (p : ℕ) (stop : Stop) → run.front p ≡ Err stop → by.step p ≡ step_stays p (stop_tells stop)
     finds_none p stop e = step_stops run.front blank_record by.read by.step follows p stop e
 
     pub finds_all : (p : ℕ) → finds_in (most s) by.step p ≡ offsets_in (most s) run.front p

@@ -14,7 +14,7 @@ use Rattle.reading.specs.Reading.{taken}
 use Rattle.reading.specs.Demand1.{fewer_than16, fewer_than_size, not_an_age}
 use Rattle.reading.proofs.Exactly.{whole_row, age_row}
 use Rattle.runs.specs.declared.Stop.{Stop}
-use Rattle.runs.specs.declared.Front.{Front}
+use Rattle.std.specs.Prelude.{Result, Ok, Err}
 use Rattle.runs.specs.Fronts.{StepOutcome, by_front, stop_tells, finds}
 use Rattle.runs.specs.Runs.{step_stays}
 use Rattle.runs.specs.Demand1.{StepRefuses}
@@ -32,10 +32,10 @@ unless_same (c ∷ row) refuse give = ap (cond c.holds (refuse c.why)) (unless_s
 
 -- what stands at the front goes by a row of conditions, and where none holds the next one is far behind
 module _ {s : List ℕ} (run : Run s) (row : List ℕ → List Condition) (far : List ℕ → ℕ)
-    (goes : (t : List ℕ) → Goes (row t) (λ why. Front.Stops (Stop.Refused why)) (Front.Takes (far t)) (run.here t))
+    (goes : (t : List ℕ) → Goes (row t) (λ why. Err (Stop.Refused why)) (Ok (far t)) (run.here t))
     {a : ℕ} (reader : Steps run a) (p : ℕ) where
   -- what a step gives by what stands
-  abbrev given : Front → StepOutcome ResTableConfig
+  abbrev given : Result ℕ Stop → StepOutcome ResTableConfig
   given f = by_front (λ stop. step_stays p (stop_tells stop)) (λ n. finds (p + n) (reader.read p)) f
 
   -- and where it isn't refused, at the exact end or elsewhere
@@ -47,7 +47,7 @@ module _ {s : List ℕ} (run : Run s) (row : List ℕ → List Condition) (far :
   good_tells false = refl
 
   stop_row : (end : Bool)
-      → Goes (map (unless end) (row (drop p s))) (λ why. step_stays p (refusal why)) (good end) (given (cond end (Front.Stops Stop.Ended) (run.here (drop p s))))
+      → Goes (map (unless end) (row (drop p s))) (λ why. step_stays p (refusal why)) (good end) (given (cond end (Err Stop.Ended) (run.here (drop p s))))
   stop_row true = record { by = sym (unless_none (row (drop p s)) (λ why. step_stays p (refusal why)) (good true)) }
   stop_row false =
       record {

@@ -11,7 +11,7 @@ use Rattle.reading.specs.Reading.{taken}
 use Rattle.reading.proofs.Former.{former, former_whole, former_whole_lem}
 use Rattle.reading.proofs.Whole.{cond_map, whole_map}
 use Rattle.runs.specs.declared.Stop.{Stop}
-use Rattle.runs.specs.declared.Front.{Front}
+use Rattle.std.specs.Prelude.{Result, Ok, Err}
 use Rattle.runs.specs.declared.RunEnd.{RunEnd}
 use Rattle.runs.specs.Fronts.{by_front, offsets_in, stop_in, stop_at, end_in}
 use Rattle.runs.specs.Runs.{front_at, most, stop_of, run_of, finds_of, stands_of}
@@ -19,18 +19,18 @@ use Rattle.runs.proofs.Fronts.{stop_is}
 use Rattle.runs.proofs.Records.{run_stopped, finds_are, stands_are}
 
 -- what stands, with another reason where the run stops
-abbrev with_stop : (Stop → Stop) → Front → Front
-with_stop reason (Front.Takes n) = Front.Takes n
-with_stop reason (Front.Stops stop) = Front.Stops (reason stop)
+abbrev with_stop : (Stop → Stop) → Result ℕ Stop → Result ℕ Stop
+with_stop reason (Ok n) = Ok n
+with_stop reason (Err stop) = Err (reason stop)
 
 -- what is given by it, where nothing goes by that reason
 by_front_lem : {A : Type 0} (reason : Stop → Stop) (stopped : A) (u v : ℕ → A) → ((n : ℕ) → u n ≡ v n)
-    → (f : Front) → by_front (λ stop. stopped) u (with_stop reason f) ≡ by_front (λ stop. stopped) v f
-by_front_lem reason stopped u v e (Front.Takes n) = e n
-by_front_lem reason stopped u v e (Front.Stops stop) = refl
+    → (f : Result ℕ Stop) → by_front (λ stop. stopped) u (with_stop reason f) ≡ by_front (λ stop. stopped) v f
+by_front_lem reason stopped u v e (Ok n) = e n
+by_front_lem reason stopped u v e (Err stop) = refl
 
 -- a run whose stops have other reasons
-module _ (front other : ℕ → Front) (reason : Stop → Stop) (same : (p : ℕ) → other p ≡ with_stop reason (front p)) where
+module _ (front other : ℕ → Result ℕ Stop) (reason : Stop → Stop) (same : (p : ℕ) → other p ≡ with_stop reason (front p)) where
   -- has the same offsets
   pub same_offsets : (k p : ℕ) → offsets_in k other p ≡ offsets_in k front p
   unfolding offsets_in
@@ -47,7 +47,7 @@ module _ (front other : ℕ → Front) (reason : Stop → Stop) (same : (p : ℕ
       ap (by_front (λ stop. p) (λ n. stop_in k other (p + n))) (same p) ∙ by_front_lem reason p _ _ (λ n. same_stop k (p + n)) (front p)
 
   -- for that reason
-  pub same_reason : (p : ℕ) (stop : Stop) → front p ≡ Front.Stops stop → stop_at other p ≡ reason stop
+  pub same_reason : (p : ℕ) (stop : Stop) → front p ≡ Err stop → stop_at other p ≡ reason stop
   same_reason p stop e = ap (by_front (λ why. why) (λ n. Stop.Ended)) (same p ∙ ap (with_stop reason) e)
 
 -- a stop as it was then
@@ -56,18 +56,18 @@ former_stop Stop.Ended = Stop.Ended
 former_stop (Stop.Refused why) = Stop.Refused (former why)
 
 -- what stood at offset p of s then
-unfoldable pub former_at : List ℕ → ℕ → Front
+unfoldable pub former_at : List ℕ → ℕ → Result ℕ Stop
 former_at s p =
-    cond (eqb p (length s)) (Front.Stops Stop.Ended)
-    (former_whole (drop p s) (λ why. Front.Stops (Stop.Refused why)) (Front.Takes (taken (drop p s))))
+    cond (eqb p (length s)) (Err Stop.Ended)
+    (former_whole (drop p s) (λ why. Err (Stop.Refused why)) (Ok (taken (drop p s))))
 
 -- it is what stands now, with the stop of then
 former_front : (s : List ℕ) (p : ℕ) → former_at s p ≡ with_stop former_stop (front_at s p)
 unfolding former_at front_at
 former_front s p =
-    sym (cond_map (with_stop former_stop) (eqb p (length s)) (Front.Stops Stop.Ended) _
-    ∙ ap (cond (eqb p (length s)) (Front.Stops Stop.Ended))
-    (whole_map (with_stop former_stop) (drop p s) _ _ ∙ former_whole_lem (drop p s) (λ why. Front.Stops (Stop.Refused why)) _))
+    sym (cond_map (with_stop former_stop) (eqb p (length s)) (Err Stop.Ended) _
+    ∙ ap (cond (eqb p (length s)) (Err Stop.Ended))
+    (whole_map (with_stop former_stop) (drop p s) _ _ ∙ former_whole_lem (drop p s) (λ why. Err (Stop.Refused why)) _))
 
 end_same : {m n i j : ℕ} {x y : Stop} → m ≡ n → i ≡ j → x ≡ y
     → ◌≡◌ {A = RunEnd} (record { records = m; offset = i; stop = x }) (record { records = n; offset = j; stop = y })

@@ -9,22 +9,22 @@ use native.Mathlib.Nat.{sub-zero, le_of_suc-le-suc, not-suc-le-zero}
 use lib.Dec.{eqb}
 use lib.ListN.{length, get_or}
 use Rattle.runs.specs.declared.Stop.{Stop}
-use Rattle.runs.specs.declared.Front.{Front}
+use Rattle.std.specs.Prelude.{Result, Ok, Err}
 use Rattle.runs.specs.declared.RunEnd.{RunEnd}
 use Rattle.runs.specs.Fronts.{StepOutcome, by_front, offsets_in, stop_in, stop_at, end_in, stop_tells, finds, stands, step_by, found, finds_in, stands_in}
 
 -- what stands at p: something that takes n bytes, or the stop of the run
-pub data Standing (front : ℕ → Front) (p : ℕ) : Type 0 where
-  takes : (n : ℕ) → front p ≡ Front.Takes n → Standing front p
-  stops : (stop : Stop) → front p ≡ Front.Stops stop → Standing front p
+pub data Standing (front : ℕ → Result ℕ Stop) (p : ℕ) : Type 0 where
+  takes : (n : ℕ) → front p ≡ Ok n → Standing front p
+  stops : (stop : Stop) → front p ≡ Err stop → Standing front p
 
-pub standing : (front : ℕ → Front) (p : ℕ) → Standing front p
+pub standing : (front : ℕ → Result ℕ Stop) (p : ℕ) → Standing front p
 standing front p = by (front p) refl where
-  by : (f : Front) → front p ≡ f → Standing front p
-  by (Front.Takes n) e = Standing.takes n e
-  by (Front.Stops stop) e = Standing.stops stop e
+  by : (f : Result ℕ Stop) → front p ≡ f → Standing front p
+  by (Ok n) e = Standing.takes n e
+  by (Err stop) e = Standing.stops stop e
 
-module _ (front : ℕ → Front) where
+module _ (front : ℕ → Result ℕ Stop) where
   offset_zero : (p : ℕ) → offsets_in zero front p ≡ []
   unfolding offsets_in
   offset_zero p = refl
@@ -34,7 +34,7 @@ module _ (front : ℕ → Front) where
   stop_zero p = refl
 
   -- something that takes n bytes stands at p: the run goes on behind it
-  module _ (p n : ℕ) (e : front p ≡ Front.Takes n) where
+  module _ (p n : ℕ) (e : front p ≡ Ok n) where
     pub offset_next : (k : ℕ) → offsets_in (suc k) front p ≡ p ∷ offsets_in k front (p + n)
     unfolding offsets_in
     offset_next k = ap (by_front (λ stop. []) (λ m. p ∷ offsets_in k front (p + m))) e
@@ -44,7 +44,7 @@ module _ (front : ℕ → Front) where
     stop_next k = ap (by_front (λ stop. p) (λ m. stop_in k front (p + m))) e
 
   -- the run stops at p
-  module _ (p : ℕ) (stop : Stop) (e : front p ≡ Front.Stops stop) where
+  module _ (p : ℕ) (stop : Stop) (e : front p ≡ Err stop) where
     pub offset_none : (k : ℕ) → offsets_in k front p ≡ []
     unfolding offsets_in
     offset_none zero = refl
@@ -59,20 +59,20 @@ module _ (front : ℕ → Front) where
     stop_is = ap (by_front (λ why. why) (λ n. Stop.Ended)) e
 
 -- what stands takes 16 bytes or more, and none past the end
-abbrev pub Within : ℕ → (ℕ → Front) → Type 0
-Within end front = (p n : ℕ) → front p ≡ Front.Takes n → (16 ≤ n) × (p + n ≤ end)
+abbrev pub Within : ℕ → (ℕ → Result ℕ Stop) → Type 0
+Within end front = (p n : ℕ) → front p ≡ Ok n → (16 ≤ n) × (p + n ≤ end)
 
 -- the run stops at p
-pub record Stopped (front : ℕ → Front) (p : ℕ) : Type 0 where
+pub record Stopped (front : ℕ → Result ℕ Stop) (p : ℕ) : Type 0 where
   pub stop : Stop
-  pub stopped : front p ≡ Front.Stops stop
+  pub stopped : front p ≡ Err stop
 
 -- something stands at p
-pub record Whole (front : ℕ → Front) (p : ℕ) : Type 0 where
+pub record Whole (front : ℕ → Result ℕ Stop) (p : ℕ) : Type 0 where
   pub amount : ℕ
-  pub takes : front p ≡ Front.Takes amount
+  pub takes : front p ≡ Ok amount
 
-module _ (front : ℕ → Front) (end : ℕ) (within : Within end front) where
+module _ (front : ℕ → Result ℕ Stop) (end : ℕ) (within : Within end front) where
   stopped_at : (p q : ℕ) → p ≡ q → Stopped front q → Stopped front p
   stopped_at p q e w = record { stop = w.stop; stopped = ap front e ∙ w.stopped }
 
@@ -99,7 +99,7 @@ module _ (front : ℕ → Front) (end : ℕ) (within : Within end front) where
       ]
 
 -- at each offset of a run something stands
-module _ (front : ℕ → Front) where
+module _ (front : ℕ → Result ℕ Stop) where
   first_or_later : (p i : ℕ) (l : List ℕ) → Whole front p → i < length (p ∷ l) → ((j : ℕ) → j < length l → Whole front (get_or l j 0))
       → Whole front (get_or (p ∷ l) i 0)
   first_or_later p zero l w h ih = w
@@ -115,13 +115,13 @@ module _ (front : ℕ → Front) where
       ]
 
 -- the walk with k turns to go from p stands at q, c of them made: what is left of the run is all that is left to count
-pub record Walked (front : ℕ → Front) (k p q c : ℕ) : Type 0 where
+pub record Walked (front : ℕ → Result ℕ Stop) (k p q c : ℕ) : Type 0 where
   pub room : c * 16 ≤ q
   pub counted : length (offsets_in k front p) ≡ c + length (offsets_in (k - c) front q)
   pub stops : stop_in k front p ≡ stop_in (k - c) front q
 
 -- it begins at its own offset
-pub begins : (front : ℕ → Front) (k p : ℕ) → Walked front k p p 0
+pub begins : (front : ℕ → Result ℕ Stop) (k p : ℕ) → Walked front k p p 0
 begins front k p =
     let e : k ≡ k - 0 = sym (sub-zero k) in
     record {
@@ -131,7 +131,7 @@ begins front k p =
     }
 
 -- it goes on behind what stands, while turns are left
-pub goes_on : (front : ℕ → Front) (k p q c n : ℕ) → Walked front k p q c → front q ≡ Front.Takes n → 16 ≤ n → c < k
+pub goes_on : (front : ℕ → Result ℕ Stop) (k p q c n : ℕ) → Walked front k p q c → front q ≡ Ok n → 16 ≤ n → c < k
     → Walked front k p (q + n) (c + 1)
 goes_on front k p q c n w e h l =
     let g = w.room in
@@ -149,7 +149,7 @@ same : {c c' q q' : ℕ} {s s' : Stop} → c ≡ c' → q ≡ q' → s ≡ s'
 same e f g = cc
 
 -- and ends where the run stops
-pub arrives : (front : ℕ → Front) (k p q c : ℕ) (stop : Stop) → Walked front k p q c → front q ≡ Front.Stops stop
+pub arrives : (front : ℕ → Result ℕ Stop) (k p q c : ℕ) (stop : Stop) → Walked front k p q c → front q ≡ Err stop
     → record { records = c; offset = q; stop = stop } ≡ end_in k front p
 arrives front k p q c stop w e =
     let at : q ≡ stop_in k front p = sym (w.stops ∙ stop_here front q stop e (k - c)) in
@@ -157,11 +157,11 @@ arrives front k p q c stop w e =
     (sym (stop_is front q stop e) ∙ ap (stop_at front) at)
 
 -- a reader whose steps go by a front
-module _ {Given : Type 0} (front : ℕ → Front) (nothing : Given) (read : ℕ → Given) (step : ℕ → StepOutcome Given) (follows : (p : ℕ) → step p ≡ step_by front nothing read p) where
-  pub step_takes : (p n : ℕ) → front p ≡ Front.Takes n → step p ≡ finds (p + n) (read p)
+module _ {Given : Type 0} (front : ℕ → Result ℕ Stop) (nothing : Given) (read : ℕ → Given) (step : ℕ → StepOutcome Given) (follows : (p : ℕ) → step p ≡ step_by front nothing read p) where
+  pub step_takes : (p n : ℕ) → front p ≡ Ok n → step p ≡ finds (p + n) (read p)
   step_takes p n e = follows p ∙ ap (by_front (λ stop. stands nothing p (stop_tells stop)) (λ m. finds (p + m) (read p))) e
 
-  pub step_stops : (p : ℕ) (stop : Stop) → front p ≡ Front.Stops stop → step p ≡ stands nothing p (stop_tells stop)
+  pub step_stops : (p : ℕ) (stop : Stop) → front p ≡ Err stop → step p ≡ stands nothing p (stop_tells stop)
   step_stops p stop e = follows p ∙ ap (by_front (λ why. stands nothing p (stop_tells why)) (λ m. finds (p + m) (read p))) e
 
   no_record : (stop : Stop) → eqb (stop_tells stop).amount 1 ≡ false
@@ -169,7 +169,7 @@ module _ {Given : Type 0} (front : ℕ → Front) (nothing : Given) (read : ℕ 
   no_record (Stop.Refused why) = refl
 
   -- where the run stops nothing is found
-  pub step_none : (p : ℕ) (stop : Stop) → front p ≡ Front.Stops stop → found (step p) ≡ false
+  pub step_none : (p : ℕ) (stop : Stop) → front p ≡ Err stop → found (step p) ≡ false
   step_none p stop e = ap found (step_stops p stop e) ∙ no_record stop
 
   -- it finds what stands in the run

@@ -7,3 +7,4 @@ pub mod Former
 pub mod Demand3
 pub mod OneOutcome
 pub mod Examples
+pub mod Passed

@@ -3,7 +3,7 @@ use Prim.Native.Nat.{ℕ, zero, suc}
 use mathlib.Core.Path.{◌≡◌, sym, ap, ◌∙◌}
 use mathlib.Core.List.{List}
 use Rattle.answers.specs.declared.Refusal.{Refusal}
-use Rattle.answers.specs.declared.Taken.{Taken}
+use Rattle.std.specs.Prelude.{Result, Ok, Err}
 use Rattle.answers.specs.declared.Told.{Told}
 use Rattle.answers.proofs.OneOutcome.{one_answer}
 use Rattle.answers.proofs.OneToOne.{back, ok_back, refused_back, tells_one}
@@ -12,7 +12,6 @@ use Rattle.runs.specs.declared.Stop.{Stop}
 use Rattle.runs.specs.declared.Step.{Step}
 use Rattle.runs.specs.declared.Stepped.{Stepped}
 use Rattle.runs.specs.declared.RunEnd.{RunEnd}
-use Rattle.runs.specs.declared.Front.{Front}
 use Rattle.runs.specs.Fronts.{StepOutcome, front_of, stop_tells, step_tells}
 use Rattle.runs.specs.Runs.{step_outcome, front_at, step_of, run_of}
 
@@ -56,10 +55,10 @@ one_told step r t p q = one_answer step_tells step r t p q
 pub one_stop : (stop : Stop) (r t : Told) → r ≡ stop_tells stop → t ≡ stop_tells stop → r ≡ t
 one_stop stop r t p q = one_answer stop_tells stop r t p q
 
-pub one_of : (answer : Taken) (r t : Front) → r ≡ front_of answer → t ≡ front_of answer → r ≡ t
+pub one_of : (answer : Result ℕ Refusal) (r t : Result ℕ Stop) → r ≡ front_of answer → t ≡ front_of answer → r ≡ t
 one_of answer r t e f = one_answer front_of answer r t e f
 
-pub one_front : (bytes : List ℕ) (p : ℕ) (r t : Front) → r ≡ front_at bytes p → t ≡ front_at bytes p → r ≡ t
+pub one_front : (bytes : List ℕ) (p : ℕ) (r t : Result ℕ Stop) → r ≡ front_at bytes p → t ≡ front_at bytes p → r ≡ t
 one_front bytes p r t e f = one_answer (front_at bytes) p r t e f
 
 pub one_run : (bytes : List ℕ) (p : ℕ) (r t : RunEnd) → r ≡ run_of bytes p → t ≡ run_of bytes p → r ≡ t

@@ -1,44 +1,43 @@
 -- A run of anything that stands end to end: it is fixed by what stands at each offset. Assumes nothing.
-use Rattle.std.specs.Prelude.{ℕ, zero, suc, ◌+◌, List, [], ◌∷◌, Bool, cond, eqb, length, drop}
-use Rattle.answers.specs.declared.Taken.{Taken}
+use Rattle.std.specs.Prelude.{ℕ, zero, suc, ◌+◌, List, [], ◌∷◌, Bool, cond, eqb, length, drop, Result, Ok, Err}
+use Rattle.answers.specs.declared.Refusal.{Refusal}
 use Rattle.answers.specs.declared.Told.{Told}
 use Rattle.answers.specs.Tells.{success, refusal}
 use Rattle.runs.specs.declared.Stop.{Stop}
-use Rattle.runs.specs.declared.Front.{Front}
 use Rattle.runs.specs.declared.Step.{Step}
 use Rattle.runs.specs.declared.RunEnd.{RunEnd}
 
 -- what is given by what stands at an offset: by why a run stops there, or by how many bytes it takes
-abbrev pub by_front : {A : Type 0} → (Stop → A) → (ℕ → A) → Front → A
-by_front stops takes (Front.Takes n) = takes n
-by_front stops takes (Front.Stops stop) = stops stop
+abbrev pub by_front : {A : Type 0} → (Stop → A) → (ℕ → A) → Result ℕ Stop → A
+by_front stops takes (Ok n) = takes n
+by_front stops takes (Err stop) = stops stop
 
 -- what an answer of a call that takes bytes says of what stands at their front: so many bytes are taken, or a run stops there
-abbrev pub front_of : Taken → Front
-front_of (Taken.Took n) = Front.Takes n
-front_of (Taken.Refused why) = Front.Stops (Stop.Refused why)
+abbrev pub front_of : Result ℕ Refusal → Result ℕ Stop
+front_of (Ok n) = Ok n
+front_of (Err why) = Err (Stop.Refused why)
 
 -- what stands at offset p of s, by what stands at the front of some bytes: at the exact end nothing; else what stands at the front of
 -- the part that starts there
-abbrev pub front_in : (List ℕ → Front) → List ℕ → ℕ → Front
-front_in here s p = cond (eqb p (length s)) (Front.Stops Stop.Ended) (here (drop p s))
+abbrev pub front_in : (List ℕ → Result ℕ Stop) → List ℕ → ℕ → Result ℕ Stop
+front_in here s p = cond (eqb p (length s)) (Err Stop.Ended) (here (drop p s))
 
 -- the offsets, at most k of them, of the run that begins at p, of what stands at each offset: the next one is as far behind as it takes bytes
-unfoldable pub offsets_in : ℕ → (ℕ → Front) → ℕ → List ℕ
+unfoldable pub offsets_in : ℕ → (ℕ → Result ℕ Stop) → ℕ → List ℕ
 offsets_in zero front p = []
 offsets_in (suc k) front p = by_front (λ stop. []) (λ n. p ∷ offsets_in k front (p + n)) (front p)
 
 -- where that run stops: at the first offset where nothing whole stands
-unfoldable pub stop_in : ℕ → (ℕ → Front) → ℕ → ℕ
+unfoldable pub stop_in : ℕ → (ℕ → Result ℕ Stop) → ℕ → ℕ
 stop_in zero front p = p
 stop_in (suc k) front p = by_front (λ stop. p) (λ n. stop_in k front (p + n)) (front p)
 
 -- why a run stops that stops at p
-abbrev pub stop_at : (ℕ → Front) → ℕ → Stop
+abbrev pub stop_at : (ℕ → Result ℕ Stop) → ℕ → Stop
 stop_at front p = by_front (λ stop. stop) (λ n. Stop.Ended) (front p)
 
 -- how many stand in that run, where it stops and why
-abbrev pub end_in : ℕ → (ℕ → Front) → ℕ → RunEnd
+abbrev pub end_in : ℕ → (ℕ → Result ℕ Stop) → ℕ → RunEnd
 end_in k front p =
     record { records = length (offsets_in k front p); offset = stop_in k front p; stop = stop_at front (stop_in k front p) }
 
@@ -67,7 +66,7 @@ abbrev pub stands : {Given : Type 0} → Given → ℕ → Told → StepOutcome 
 stands nothing p told = record { tells = told; next = p; gives = nothing }
 
 -- a step at p of a reader that reads what stands there
-abbrev pub step_by : {Given : Type 0} → (ℕ → Front) → Given → (ℕ → Given) → ℕ → StepOutcome Given
+abbrev pub step_by : {Given : Type 0} → (ℕ → Result ℕ Stop) → Given → (ℕ → Given) → ℕ → StepOutcome Given
 step_by front nothing read p = by_front (λ stop. stands nothing p (stop_tells stop)) (λ n. finds (p + n) (read p)) (front p)
 
 -- whether a step found something

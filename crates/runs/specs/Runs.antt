@@ -1,22 +1,21 @@
 -- 01, "Ages, marks, runs": the records of a run, where it stops and why, and a step of its reader. Assumes nothing.
-use Rattle.std.specs.Prelude.{ℕ, ◌/◌, List, length, drop}
+use Rattle.std.specs.Prelude.{ℕ, ◌/◌, List, length, drop, Result, Ok, Err}
 use Rattle.answers.specs.declared.Told.{Told}
 use Rattle.answers.specs.Tells.{refusal}
 use Rattle.record.specs.declared.ResTableConfig.{ResTableConfig}
 use Rattle.record.specs.Blank.{blank_record}
 use Rattle.reading.specs.Reading.{taken, aged, if_whole, if_age}
 use Rattle.runs.specs.declared.Stop.{Stop}
-use Rattle.runs.specs.declared.Front.{Front}
 use Rattle.runs.specs.declared.Stepped.{Stepped}
 use Rattle.runs.specs.declared.RunEnd.{RunEnd}
 use Rattle.runs.specs.Fronts.{StepOutcome, front_in, offsets_in, stop_in, end_in, step_tells, stands, step_by, finds_in, stands_in}
 
 -- what stands at the front of t: a whole record, which takes T bytes, or nothing, for the parse refusal
-abbrev pub record_front : List ℕ → Front
-record_front t = if_whole t (λ why. Front.Stops (Stop.Refused why)) (Front.Takes (taken t))
+abbrev pub record_front : List ℕ → Result ℕ Stop
+record_front t = if_whole t (λ why. Err (Stop.Refused why)) (Ok (taken t))
 
 -- what stands at offset p of s: at the exact end nothing, else a record
-unfoldable pub front_at : List ℕ → ℕ → Front
+unfoldable pub front_at : List ℕ → ℕ → Result ℕ Stop
 front_at s p = front_in record_front s p
 
 -- a run of n bytes gives at most n / 16 records
@@ -44,7 +43,7 @@ abbrev pub step_stays : ℕ → Told → StepOutcome ResTableConfig
 step_stays p told = stands blank_record p told
 
 -- a step at p by a reader of age a: 3; else the record that is read by what stands there, or the stop of the run
-abbrev pub step_in : (ℕ → Front) → (ℕ → ResTableConfig) → ℕ → ℕ → StepOutcome ResTableConfig
+abbrev pub step_in : (ℕ → Result ℕ Stop) → (ℕ → ResTableConfig) → ℕ → ℕ → StepOutcome ResTableConfig
 step_in front read a p = if_age a (λ why. step_stays p (refusal why)) (step_by front blank_record read p)
 
 -- a step at p of s: the record that stands there, as the age reads it

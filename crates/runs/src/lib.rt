@@ -1,10 +1,11 @@
 #![tactic(auto)]
 // Runs of records, end to end: what stands at an offset, a step there, and the walk to where a run stops.
 ghost use Rattle.std.specs.Prelude.{◌≡◌};
-ghost use Rattle.runs.specs.Fronts.{front_of, step_tells, stop_tells};
+ghost use Rattle.runs.specs.declared.Stop.{Stop};
+ghost use Rattle.runs.specs.Fronts.{step_tells, stop_tells};
 ghost use Rattle.runs.specs.Runs.{front_at, run_of, step_of, step_outcome, step_stays};
 
-use answers::{Refusal, Taken, Told};
+use answers::{Refusal, Told};
 use reading::{lesser, read_to, take};
 use record::{Age, ResTableConfig, blank};
 
@@ -15,15 +16,6 @@ pub enum Stop {
     Ended,
     // What stands there is refused.
     Refused(Refusal),
-}
-
-// What stands at an offset of a run.
-#[derive(Clone, Copy)]
-pub enum Front {
-    // Something whole that takes so many bytes.
-    Takes(usize),
-    // Nothing that is whole: the run stops.
-    Stops(Stop),
 }
 
 // The answer of a step.
@@ -75,27 +67,24 @@ impl Step {
     }
 }
 
-impl Front {
-    // What the answer of a call that takes bytes says of what stands at their front.
-    pub fn of(answer: Taken) -> Self
-        ensures { result ≡ front_of answer }
-    {
-        match answer {
-            Taken::Took(n) => Self::Takes(n),
-            Taken::Refused(why) => Self::Stops(Stop::Refused(why)),
-        }
+// A run stops where what stands is refused.
+impl From<Refusal> for Stop {
+    ghost from_gives = { λ why stop. stop ≡ Stop.Refused why };
+
+    fn from(why: Refusal) -> Self {
+        Stop::Refused(why)
     }
 }
 
-// What stands at an offset of bytes: a whole record, or the stop of a run.
-pub fn front_at(bytes: &[u8], offset: usize) -> Front
+// What stands at an offset of bytes: a whole record, which takes so many of them, or the stop of a run.
+pub fn front_at(bytes: &[u8], offset: usize) -> Result<usize, Stop>
     ensures { result ≡ front_at bytes.now offset }
 {
     if offset == bytes.len() {
-        return Front::Stops(Stop::Ended);
+        return Err(Stop::Ended);
     }
     let from = lesser(offset, bytes.len());
-    Front::of(take(&bytes[from..]))
+    Ok(take(&bytes[from..])?)
 }
 
 // What a step gives that finds nothing at an offset.
@@ -118,7 +107,7 @@ pub fn step_at(bytes: &[u8], offset: usize, age: Age) -> Stepped
         return stays(offset, Stop::Refused(Refusal::NotAnAge));
     }
     match front_at(bytes, offset) {
-        Front::Takes(n) => {
+        Ok(n) => {
             let limit = lesser(n, age.0 as usize);
             let record = read_to(&bytes[offset..], limit);
             Stepped {
@@ -127,7 +116,7 @@ pub fn step_at(bytes: &[u8], offset: usize, age: Age) -> Stepped
                 record,
             }
         }
-        Front::Stops(stop) => stays(offset, stop),
+        Err(stop) => stays(offset, stop),
     }
 }
 
@@ -139,11 +128,11 @@ pub fn walk(bytes: &[u8], offset: usize) -> RunEnd
     let mut records = 0;
     loop {
         match front_at(bytes, here) {
-            Front::Takes(n) => {
+            Ok(n) => {
                 here += n;
                 records += 1;
             }
-            Front::Stops(stop) => {
+            Err(stop) => {
                 return RunEnd {
                     records,
                     offset: here,

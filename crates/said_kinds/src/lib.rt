@@ -1,7 +1,8 @@
 #![tactic(auto)]
 // Which cases of a kind are said.
-ghost use Rattle.std.specs.Prelude.{◌≡◌};
+ghost use Rattle.std.specs.Prelude.{◌≡◌, Bool, refl};
 ghost use Rattle.said_kinds.specs.Said.{grammatical_gender_said, layout_dir_said, screen_size_said, screen_long_said, screen_round_said, wide_color_gamut_said, hdr_said, orientation_said, ui_mode_said, ui_mode_night_said, density_said, touchscreen_said, keys_hidden_said, keyboard_said, nav_hidden_said, navigation_said, kind_said};
+ghost use Rattle.kinds.specs.declared.Kind.{Kind};
 
 use kinds::{
     Density, GrammaticalGender, Hdr, Keyboard, KeysHidden, Kind, LayoutDir, NavHidden, Navigation,
@@ -9,231 +10,328 @@ use kinds::{
     WideColorGamut,
 };
 
+// A kind that a record's text may say.
+pub trait Said: Copy {
+    // Whether it is said.
+    ghost said: { Self → Bool };
+
+    // Which of the sixteen it is.
+    ghost as_kind: { Self → Kind };
+
+    // Whether the kind is said.
+    fn is_said(self) -> bool
+        ensures { result ≡ said self };
+
+    // The same as one of the sixteen.
+    fn as_kind(self) -> Kind
+        ensures { result ≡ as_kind self };
+
+    // It is said where that one is.
+    ghost said_alike: { (kind : Self) → said kind ≡ kind_said (as_kind kind) };
+}
+
 // A GrammaticalGender is said unless it is Any.
-pub fn grammatical_gender_said(kind: GrammaticalGender) -> bool
-    ensures { result ≡ grammatical_gender_said kind }
-{
-    match kind {
-        GrammaticalGender::Neuter => true,
-        GrammaticalGender::Feminine => true,
-        GrammaticalGender::Masculine => true,
-        GrammaticalGender::Any => false,
+impl Said for GrammaticalGender {
+    ghost said = { grammatical_gender_said };
+
+    ghost as_kind = { Kind.GrammaticalGender };
+
+    ghost said_alike = { λ kind. refl };
+
+    fn is_said(self) -> bool {
+        !matches!(self, GrammaticalGender::Any)
+    }
+
+    fn as_kind(self) -> Kind {
+        Kind::GrammaticalGender(self)
     }
 }
 
 // A LayoutDir is said unless it is Any.
-pub fn layout_dir_said(kind: LayoutDir) -> bool
-    ensures { result ≡ layout_dir_said kind }
-{
-    match kind {
-        LayoutDir::Ltr => true,
-        LayoutDir::Rtl => true,
-        LayoutDir::Any(_) => false,
+impl Said for LayoutDir {
+    ghost said = { layout_dir_said };
+
+    ghost as_kind = { Kind.LayoutDir };
+
+    ghost said_alike = { λ kind. refl };
+
+    fn is_said(self) -> bool {
+        !matches!(self, LayoutDir::Any(_))
+    }
+
+    fn as_kind(self) -> Kind {
+        Kind::LayoutDir(self)
     }
 }
 
 // A ScreenSize is said unless it is Any.
-pub fn screen_size_said(kind: ScreenSize) -> bool
-    ensures { result ≡ screen_size_said kind }
-{
-    match kind {
-        ScreenSize::Small => true,
-        ScreenSize::Normal => true,
-        ScreenSize::Large => true,
-        ScreenSize::XLarge => true,
-        ScreenSize::Any(_) => false,
+impl Said for ScreenSize {
+    ghost said = { screen_size_said };
+
+    ghost as_kind = { Kind.ScreenSize };
+
+    ghost said_alike = { λ kind. refl };
+
+    fn is_said(self) -> bool {
+        !matches!(self, ScreenSize::Any(_))
+    }
+
+    fn as_kind(self) -> Kind {
+        Kind::ScreenSize(self)
     }
 }
 
 // A ScreenLong is said unless it is Any.
-pub fn screen_long_said(kind: ScreenLong) -> bool
-    ensures { result ≡ screen_long_said kind }
-{
-    match kind {
-        ScreenLong::No => true,
-        ScreenLong::Yes => true,
-        ScreenLong::Any(_) => false,
+impl Said for ScreenLong {
+    ghost said = { screen_long_said };
+
+    ghost as_kind = { Kind.ScreenLong };
+
+    ghost said_alike = { λ kind. refl };
+
+    fn is_said(self) -> bool {
+        !matches!(self, ScreenLong::Any(_))
+    }
+
+    fn as_kind(self) -> Kind {
+        Kind::ScreenLong(self)
     }
 }
 
 // A ScreenRound is said unless it is Any.
-pub fn screen_round_said(kind: ScreenRound) -> bool
-    ensures { result ≡ screen_round_said kind }
-{
-    match kind {
-        ScreenRound::No => true,
-        ScreenRound::Yes => true,
-        ScreenRound::Any(_) => false,
+impl Said for ScreenRound {
+    ghost said = { screen_round_said };
+
+    ghost as_kind = { Kind.ScreenRound };
+
+    ghost said_alike = { λ kind. refl };
+
+    fn is_said(self) -> bool {
+        !matches!(self, ScreenRound::Any(_))
+    }
+
+    fn as_kind(self) -> Kind {
+        Kind::ScreenRound(self)
     }
 }
 
 // A WideColorGamut is said unless it is Any.
-pub fn wide_color_gamut_said(kind: WideColorGamut) -> bool
-    ensures { result ≡ wide_color_gamut_said kind }
-{
-    match kind {
-        WideColorGamut::No => true,
-        WideColorGamut::Yes => true,
-        WideColorGamut::Any(_) => false,
+impl Said for WideColorGamut {
+    ghost said = { wide_color_gamut_said };
+
+    ghost as_kind = { Kind.WideColorGamut };
+
+    ghost said_alike = { λ kind. refl };
+
+    fn is_said(self) -> bool {
+        !matches!(self, WideColorGamut::Any(_))
+    }
+
+    fn as_kind(self) -> Kind {
+        Kind::WideColorGamut(self)
     }
 }
 
 // An Hdr is said unless it is Any.
-pub fn hdr_said(kind: Hdr) -> bool
-    ensures { result ≡ hdr_said kind }
-{
-    match kind {
-        Hdr::No => true,
-        Hdr::Yes => true,
-        Hdr::Any(_) => false,
+impl Said for Hdr {
+    ghost said = { hdr_said };
+
+    ghost as_kind = { Kind.Hdr };
+
+    ghost said_alike = { λ kind. refl };
+
+    fn is_said(self) -> bool {
+        !matches!(self, Hdr::Any(_))
+    }
+
+    fn as_kind(self) -> Kind {
+        Kind::Hdr(self)
     }
 }
 
 // An Orientation is said unless it is Any.
-pub fn orientation_said(kind: Orientation) -> bool
-    ensures { result ≡ orientation_said kind }
-{
-    match kind {
-        Orientation::Any => false,
-        Orientation::Port => true,
-        Orientation::Land => true,
-        Orientation::Square => true,
-        Orientation::Unknown(_) => true,
+impl Said for Orientation {
+    ghost said = { orientation_said };
+
+    ghost as_kind = { Kind.Orientation };
+
+    ghost said_alike = { λ kind. refl };
+
+    fn is_said(self) -> bool {
+        !matches!(self, Orientation::Any)
+    }
+
+    fn as_kind(self) -> Kind {
+        Kind::Orientation(self)
     }
 }
 
 // A UIMode is said unless it is Any.
-pub fn ui_mode_said(kind: UIMode) -> bool
-    ensures { result ≡ ui_mode_said kind }
-{
-    match kind {
-        UIMode::Any => false,
-        UIMode::Normal => true,
-        UIMode::Desk => true,
-        UIMode::Car => true,
-        UIMode::Television => true,
-        UIMode::Appliance => true,
-        UIMode::Watch => true,
-        UIMode::VRHeadset => true,
-        UIMode::Unknown(_) => true,
+impl Said for UIMode {
+    ghost said = { ui_mode_said };
+
+    ghost as_kind = { Kind.UIMode };
+
+    ghost said_alike = { λ kind. refl };
+
+    fn is_said(self) -> bool {
+        !matches!(self, UIMode::Any)
+    }
+
+    fn as_kind(self) -> Kind {
+        Kind::UIMode(self)
     }
 }
 
 // A UIModeNight is said unless it is Any.
-pub fn ui_mode_night_said(kind: UIModeNight) -> bool
-    ensures { result ≡ ui_mode_night_said kind }
-{
-    match kind {
-        UIModeNight::Any => false,
-        UIModeNight::No => true,
-        UIModeNight::Yes => true,
-        UIModeNight::Unknown(_) => true,
+impl Said for UIModeNight {
+    ghost said = { ui_mode_night_said };
+
+    ghost as_kind = { Kind.UIModeNight };
+
+    ghost said_alike = { λ kind. refl };
+
+    fn is_said(self) -> bool {
+        !matches!(self, UIModeNight::Any)
+    }
+
+    fn as_kind(self) -> Kind {
+        Kind::UIModeNight(self)
     }
 }
 
 // A Density is said unless it is Default.
-pub fn density_said(kind: Density) -> bool
-    ensures { result ≡ density_said kind }
-{
-    match kind {
-        Density::Default => false,
-        Density::Low => true,
-        Density::Medium => true,
-        Density::TV => true,
-        Density::High => true,
-        Density::XHigh => true,
-        Density::XXHigh => true,
-        Density::XXXHigh => true,
-        Density::Any => true,
-        Density::None => true,
-        Density::Unknown(_) => true,
+impl Said for Density {
+    ghost said = { density_said };
+
+    ghost as_kind = { Kind.Density };
+
+    ghost said_alike = { λ kind. refl };
+
+    fn is_said(self) -> bool {
+        !matches!(self, Density::Default)
+    }
+
+    fn as_kind(self) -> Kind {
+        Kind::Density(self)
     }
 }
 
 // A Touchscreen is said unless it is Any.
-pub fn touchscreen_said(kind: Touchscreen) -> bool
-    ensures { result ≡ touchscreen_said kind }
-{
-    match kind {
-        Touchscreen::Any => false,
-        Touchscreen::NoTouch => true,
-        Touchscreen::Stylus => true,
-        Touchscreen::Finger => true,
-        Touchscreen::Unknown(_) => true,
+impl Said for Touchscreen {
+    ghost said = { touchscreen_said };
+
+    ghost as_kind = { Kind.Touchscreen };
+
+    ghost said_alike = { λ kind. refl };
+
+    fn is_said(self) -> bool {
+        !matches!(self, Touchscreen::Any)
+    }
+
+    fn as_kind(self) -> Kind {
+        Kind::Touchscreen(self)
     }
 }
 
 // A KeysHidden is said unless it is Any.
-pub fn keys_hidden_said(kind: KeysHidden) -> bool
-    ensures { result ≡ keys_hidden_said kind }
-{
-    match kind {
-        KeysHidden::Any => false,
-        KeysHidden::No => true,
-        KeysHidden::Yes => true,
-        KeysHidden::Soft => true,
+impl Said for KeysHidden {
+    ghost said = { keys_hidden_said };
+
+    ghost as_kind = { Kind.KeysHidden };
+
+    ghost said_alike = { λ kind. refl };
+
+    fn is_said(self) -> bool {
+        !matches!(self, KeysHidden::Any)
+    }
+
+    fn as_kind(self) -> Kind {
+        Kind::KeysHidden(self)
     }
 }
 
 // A Keyboard is said unless it is Any.
-pub fn keyboard_said(kind: Keyboard) -> bool
-    ensures { result ≡ keyboard_said kind }
-{
-    match kind {
-        Keyboard::Any => false,
-        Keyboard::NoKeys => true,
-        Keyboard::Qwerty => true,
-        Keyboard::Key12 => true,
-        Keyboard::Unknown(_) => true,
+impl Said for Keyboard {
+    ghost said = { keyboard_said };
+
+    ghost as_kind = { Kind.Keyboard };
+
+    ghost said_alike = { λ kind. refl };
+
+    fn is_said(self) -> bool {
+        !matches!(self, Keyboard::Any)
+    }
+
+    fn as_kind(self) -> Kind {
+        Kind::Keyboard(self)
     }
 }
 
 // A NavHidden is said unless it is Any.
-pub fn nav_hidden_said(kind: NavHidden) -> bool
-    ensures { result ≡ nav_hidden_said kind }
-{
-    match kind {
-        NavHidden::Any => false,
-        NavHidden::No => true,
-        NavHidden::Yes => true,
-        NavHidden::Unknown(_) => true,
+impl Said for NavHidden {
+    ghost said = { nav_hidden_said };
+
+    ghost as_kind = { Kind.NavHidden };
+
+    ghost said_alike = { λ kind. refl };
+
+    fn is_said(self) -> bool {
+        !matches!(self, NavHidden::Any)
+    }
+
+    fn as_kind(self) -> Kind {
+        Kind::NavHidden(self)
     }
 }
 
 // A Navigation is said unless it is Any.
-pub fn navigation_said(kind: Navigation) -> bool
-    ensures { result ≡ navigation_said kind }
-{
-    match kind {
-        Navigation::Any => false,
-        Navigation::NoNav => true,
-        Navigation::Dpad => true,
-        Navigation::Trackball => true,
-        Navigation::Wheel => true,
-        Navigation::Unknown(_) => true,
+impl Said for Navigation {
+    ghost said = { navigation_said };
+
+    ghost as_kind = { Kind.Navigation };
+
+    ghost said_alike = { λ kind. refl };
+
+    fn is_said(self) -> bool {
+        !matches!(self, Navigation::Any)
+    }
+
+    fn as_kind(self) -> Kind {
+        Kind::Navigation(self)
     }
 }
 
-// Whether a kind is said.
-pub fn kind_said(kind: Kind) -> bool
-    ensures { result ≡ kind_said kind }
-{
-    match kind {
-        Kind::GrammaticalGender(k) => grammatical_gender_said(k),
-        Kind::LayoutDir(k) => layout_dir_said(k),
-        Kind::ScreenSize(k) => screen_size_said(k),
-        Kind::ScreenLong(k) => screen_long_said(k),
-        Kind::ScreenRound(k) => screen_round_said(k),
-        Kind::WideColorGamut(k) => wide_color_gamut_said(k),
-        Kind::Hdr(k) => hdr_said(k),
-        Kind::Orientation(k) => orientation_said(k),
-        Kind::UIMode(k) => ui_mode_said(k),
-        Kind::UIModeNight(k) => ui_mode_night_said(k),
-        Kind::Density(k) => density_said(k),
-        Kind::Touchscreen(k) => touchscreen_said(k),
-        Kind::KeysHidden(k) => keys_hidden_said(k),
-        Kind::Keyboard(k) => keyboard_said(k),
-        Kind::NavHidden(k) => nav_hidden_said(k),
-        Kind::Navigation(k) => navigation_said(k),
+// Any of the sixteen is said where its own kind is.
+impl Said for Kind {
+    ghost said = { kind_said };
+
+    ghost as_kind = { λ kind. kind };
+
+    ghost said_alike = { λ kind. refl };
+
+    fn is_said(self) -> bool {
+        match self {
+            Kind::GrammaticalGender(kind) => kind.is_said(),
+            Kind::LayoutDir(kind) => kind.is_said(),
+            Kind::ScreenSize(kind) => kind.is_said(),
+            Kind::ScreenLong(kind) => kind.is_said(),
+            Kind::ScreenRound(kind) => kind.is_said(),
+            Kind::WideColorGamut(kind) => kind.is_said(),
+            Kind::Hdr(kind) => kind.is_said(),
+            Kind::Orientation(kind) => kind.is_said(),
+            Kind::UIMode(kind) => kind.is_said(),
+            Kind::UIModeNight(kind) => kind.is_said(),
+            Kind::Density(kind) => kind.is_said(),
+            Kind::Touchscreen(kind) => kind.is_said(),
+            Kind::KeysHidden(kind) => kind.is_said(),
+            Kind::Keyboard(kind) => kind.is_said(),
+            Kind::NavHidden(kind) => kind.is_said(),
+            Kind::Navigation(kind) => kind.is_said(),
+        }
+    }
+
+    fn as_kind(self) -> Kind {
+        self
     }
 }

@@ -7,14 +7,14 @@ ghost use Rattle.buffer.specs.Written.{outcome};
 ghost use Rattle.marking.specs.Marks.{marks_outcome};
 ghost use Rattle.text.specs.Counted.{counted_aged};
 
-use answers::{Counted, Written};
+use answers::{Counted, Refusal};
 use marking::marks;
 use reading::lesser;
 use record::Age;
 use text::aged_text;
 
 // Writes the text of the record at an offset for a reader of an age.
-pub fn text_at(bytes: &[u8], offset: usize, age: Age, out: &mut [u8]) -> Counted
+pub fn text_at(bytes: &[u8], offset: usize, age: Age, out: &mut [u8]) -> Result<Counted, Refusal>
     ensures { counted_outcome result out.new ≡ counted_aged age.0 (drop offset bytes.now) out.old }
 {
     let from = lesser(offset, bytes.len());
@@ -22,7 +22,7 @@ pub fn text_at(bytes: &[u8], offset: usize, age: Age, out: &mut [u8]) -> Counted
 }
 
 // Writes the fourteen marks of the record at an offset for a reader of an age.
-pub fn marks_at(bytes: &[u8], offset: usize, age: Age, out: &mut [u8]) -> Written
+pub fn marks_at(bytes: &[u8], offset: usize, age: Age, out: &mut [u8]) -> Result<usize, Refusal>
     ensures { outcome result out.new ≡ marks_outcome age.0 (drop offset bytes.now) out.old }
 {
     let from = lesser(offset, bytes.len());

@@ -5,8 +5,7 @@ use mathlib.Core.List.{List, [], ◌∷◌, ◌++◌}
 use native.Mathlib.Omega.{arith}
 use lib.ListN.{length}
 use Rattle.answers.specs.declared.Refusal.{Refusal}
-use Rattle.answers.specs.declared.Written.{Written}
-use Rattle.answers.specs.Counted.{counted_with}
+use Rattle.std.specs.Prelude.{Ok, Err}
 use Rattle.buffer.specs.Counted.{counted_outcome, counting}
 use Rattle.buffer.specs.Put.{Put}
 use Rattle.buffer.specs.Written.{written}
@@ -15,7 +14,7 @@ use Rattle.buffer.proofs.OneOutcome.{one_put}
 use Rattle.buffer.proofs.Putting.{put_put, front_ends}
 use Rattle.buffer.proofs.Writing.{put_written, written_short}
 use Rattle.subtag.specs.declared.Copied.{Copied}
-use Rattle.subtag.specs.Copies.{Copies}
+use Rattle.subtag.specs.Copies.{Copies, counted_by}
 use Rattle.subtag.specs.Replacements.{replacements_in}
 
 -- any two outcomes of a copier for the same input are one
@@ -43,11 +42,11 @@ in_append (s ∷ u) v = omega (arith, in_append u v)
 
 -- a copy into the lent buffer itself, which holds the text
 pub copy_written : {old : List ℕ} {w : List ℕ} {n : ℕ} {new : List ℕ} {r : Copied} → length w ≤ length old → Copies old 0 w n new r
-    → counted_outcome (counted_with r.replacements (Written.Wrote r.at)) new ≡ counting n (written w old)
+    → counted_outcome (Ok (counted_by r)) new ≡ counting n (written w old)
 copy_written {n = n} {r = r} h p =
-    rw p.counts (answer_counted n (Written.Wrote r.at) (rw (front_ends p.puts h) (put_written h p.puts)))
+    rw p.counts (answer_counted n (Ok r.at) (rw (front_ends p.puts h) (put_written h p.puts)))
 
 -- where the lent buffer doesn't hold it, nothing is copied and the call is refused
 pub copy_short : (n : ℕ) (w old : List ℕ) → length old < length w
-    → counted_outcome (counted_with 0 (Written.Refused Refusal.ShortBuffer)) old ≡ counting n (written w old)
-copy_short n w old h = answer_counted n (Written.Refused Refusal.ShortBuffer) (sym (written_short w old h))
+    → counted_outcome (Err Refusal.ShortBuffer) old ≡ counting n (written w old)
+copy_short n w old h = answer_counted n (Err Refusal.ShortBuffer) (sym (written_short w old h))

@@ -1,7 +1,8 @@
 -- Laws of `drop_nuls`. Assumes nothing.
-use Prim.Native.Nat.{ℕ, suc, ◌<◌}
+use Prim.Native.Nat.{ℕ, suc, ◌+◌, ◌<◌}
 use mathlib.Core.Path.{◌≡◌, refl, ap, ◌∙◌}
 use mathlib.Core.List.{List, [], ◌∷◌, ◌++◌}
+use native.Mathlib.Numerals.{add-one}
 use lib.ListN.{length, get_or, take}
 use lib.Seq.{take-suc}
 use borrow.Author.Tests.{ne_eqb}
@@ -27,12 +28,13 @@ pub one_less : (s : List ℕ) (n m : ℕ) → n ≡ suc m → m < length s → g
 one_less s n m e h z = rw (e, take-suc s m 0, z, nul_last)
 
 -- another byte there: all up to n stays
-pub stays : (s : List ℕ) (n m : ℕ) → n ≡ suc m → m < length s → (get_or s m 0 ≡ 0 → ⊥) → drop_nuls (take n s) ≡ take n s
-stays s n m e h z = rw (e, take-suc s m 0) (other_last (take m s) (get_or s m 0) z)
+pub stays : (s : List ℕ) (n m : ℕ) → n ≡ suc m → m < length s → (get_or s m 0 ≡ 0 → ⊥) → drop_nuls (take n s) ≡ take (m + 1) s
+stays s n m e h z = rw (e, add-one, take-suc s m 0) (other_last (take m s) (get_or s m 0) z)
 
+-- no byte is left
 pub none_left : drop_nuls [] ≡ []
 unfolding drop_nuls
 none_left = refl
 
-pub ended : (s : List ℕ) (n : ℕ) → n ≡ 0 → drop_nuls (take n s) ≡ take n s
+pub ended : (s : List ℕ) (n : ℕ) → n ≡ 0 → drop_nuls (take n s) ≡ []
 ended s n e = rw e none_left

@@ -12,7 +12,7 @@ ghost use Rattle.subtag.specs.Replacements.{replacements};
 ghost use Rattle.subtag.specs.Subtag.{replaced, drop_nuls, subtag_of};
 ghost use Rattle.subtag.specs.Steps.{Fronted, Measured};
 
-use answers::{Counted, Refusal, Written};
+use answers::{Counted, Refusal};
 use buffer::{put, put_byte};
 use utf8::{Front, first};
 
@@ -21,6 +21,20 @@ use utf8::{Front, first};
 pub struct Copied {
     pub at: usize,
     pub replacements: usize,
+}
+
+// Of a copy at the front of a buffer that has room for it.
+impl From<Copied> for Counted {
+    ghost use Rattle.subtag.specs.Copies.{counted_by};
+
+    ghost from_gives = { λ copied counted. counted ≡ counted_by copied };
+
+    fn from(copied: Copied) -> Self {
+        Counted {
+            length: copied.at,
+            replacements: copied.replacements,
+        }
+    }
 }
 
 // A writer's next offset, how many bytes of its source it has taken, and how many maximal subparts it has replaced.
@@ -87,14 +101,12 @@ fn put_replaced(src: &[u8], at: usize, out: &mut [u8]) -> Copied
 fn trim(s: &[u8]) -> usize
     ensures { (result ≤ length s.now) × (take result s.now ≡ drop_nuls s.now) }
 {
-    let mut n = s.len();
-    while 0 < n {
-        if s[n - 1] != 0 {
-            return n;
+    for n in (0..s.len()).rev() {
+        if s[n] != 0 {
+            return n + 1;
         }
-        n -= 1;
     }
-    n
+    0
 }
 
 // Puts a subtag. A NUL stands by itself, so those at the end may go first. Machinery: it refuses nothing.
@@ -158,18 +170,11 @@ pub fn subtag_reach(src: &[u8], room: usize) -> usize
 }
 
 // Writes a subtag to the front of out; where out is shorter, it is left as it is.
-pub fn write_subtag(src: &[u8], out: &mut [u8]) -> Counted
+pub fn write_subtag(src: &[u8], out: &mut [u8]) -> Result<Counted, Refusal>
     ensures { counted_outcome result out.new ≡ counting (replacements src.now) (written (subtag_of src.now) out.old) }
 {
     if out.len() < subtag_reach(src, out.len() + 1) {
-        return Counted {
-            answer: Written::Refused(Refusal::ShortBuffer),
-            replacements: 0,
-        };
+        return Err(Refusal::ShortBuffer);
     }
-    let copied = put_subtag(src, 0, out);
-    Counted {
-        answer: Written::Wrote(copied.at),
-        replacements: copied.replacements,
-    }
+    Ok(put_subtag(src, 0, out).into())
 }

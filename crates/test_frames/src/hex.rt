@@ -8,10 +8,8 @@ pub fn line(bytes: &[u8], line: &mut [u8]) -> usize
     ensures { Put line.old 0 (hex_line bytes.now) line.new result }
 {
     let mut end = 0;
-    let mut i = 0;
-    while i < bytes.len() {
-        end = digits(bytes[i], end, line);
-        i += 1;
+    for &byte in bytes {
+        end = digits(byte, end, line);
     }
     buffer::put_byte(b'\n', end, line)
 }

@@ -11,24 +11,32 @@ ghost use Rattle.runs.specs.Runs.{run_of};
 ghost use Rattle.text.specs.Text.{plain_text};
 ghost use Rattle.test_probe.specs.Probe.{Comes, cursor_packed, end_packed, end_row, paired, write_sized};
 
-use answers::{Taken, Written};
+use answers::{Refusal, Told};
 use lines::{Cursor, first, line};
 use order::{cmp, eq};
-use reading::{parse, take};
+use reading::parse;
 use record::{Age, ResTableConfig, blank};
 use record_line::record_line;
 use runs::walk;
 use text::plain_text;
 use writing::write;
 
+// The record that parsing bytes gives, and where they are refused the one that holds nothing.
+fn parsed_or_blank(bytes: &[u8]) -> ResTableConfig
+    ensures { result ≡ (parse_of bytes.now).gives }
+{
+    match parse(bytes) {
+        Ok(parsed) => parsed.record,
+        Err(_) => blank(),
+    }
+}
+
 // Whether the record that parsing bytes gives equals the one that holds nothing: so every field of it is looked at.
 #[unsafe(no_mangle)]
 pub extern "C" fn probe_blank(bytes: &[u8]) -> bool
     ensures { result ≡ equal_of (parse_of bytes.now).gives blank_record }
 {
-    let parsed = parse(bytes);
-    let record = parsed.record;
-    eq(record, blank())
+    eq(parsed_or_blank(bytes), blank())
 }
 
 // Writes the plain text of the record at the front of bytes, and answers how many bytes it has, 0 where it is refused.
@@ -37,10 +45,10 @@ pub extern "C" fn probe_text(bytes: &[u8], out: &mut [u8]) -> usize
     ensures value { result ≡ (plain_text bytes.now out.old).tells.amount }
     ensures out_after { out.new ≡ (plain_text bytes.now out.old).leaves }
 {
-    let counted = plain_text(bytes, out);
-    let answer = counted.answer;
-    let told = answer.told();
-    told.amount
+    match plain_text(bytes, out) {
+        Ok(counted) => counted.length,
+        Err(_) => 0,
+    }
 }
 
 // The order of the records that parsing a and parsing b give: 0 for Less, 1 for Equal, 2 for Greater.
@@ -48,11 +56,7 @@ pub extern "C" fn probe_text(bytes: &[u8], out: &mut [u8]) -> usize
 pub extern "C" fn probe_order(a: &[u8], b: &[u8]) -> u32
     ensures { result ≡ ordering_tells (order_of (parse_of a.now).gives (parse_of b.now).gives) }
 {
-    let parsed_a = parse(a);
-    let parsed_b = parse(b);
-    let first = parsed_a.record;
-    let second = parsed_b.record;
-    let order = cmp(first, second);
+    let order = cmp(parsed_or_blank(a), parsed_or_blank(b));
     order.number()
 }
 
@@ -80,8 +84,7 @@ pub extern "C" fn probe_first_line(bytes: &[u8], age: u32, out: &mut [u8]) -> u6
     ensures { Comes result out.new (line_of age bytes.now Cursor.Start out.old).does }
 {
     let lined = line(bytes, Age(age), first(), out);
-    let answer = lined.answer;
-    answer.told().packed()
+    Told::from(lined.answer).packed()
 }
 
 // Writes the line of the record of an index at an offset in a listing of bytes at an age, or where none stands there the last one.
@@ -96,8 +99,7 @@ pub extern "C" fn probe_line(
     ensures { Comes result out.new (line_of age bytes.now (Cursor.Record index offset) out.old).does }
 {
     let lined = line(bytes, Age(age), Cursor::Record { index, offset }, out);
-    let answer = lined.answer;
-    answer.told().packed()
+    Told::from(lined.answer).packed()
 }
 
 // Writes that line too, and answers where the listing goes on.
@@ -128,8 +130,7 @@ pub extern "C" fn probe_record_line(
 ) -> u64
     ensures { Comes result out.new (record_line_of age index offset bytes.now out.old) }
 {
-    let answer = record_line(bytes, Age(age), index, offset, out);
-    answer.told().packed()
+    Told::from(record_line(bytes, Age(age), index, offset, out)).packed()
 }
 
 // Where the run of bytes that begins at an offset stops, under the number with which it does.
@@ -170,17 +171,11 @@ fn sized(mut r: ResTableConfig, size: u32) -> ResTableConfig
 }
 
 // Writes the bytes of the record at the front of bytes, with another size.
-fn write_sized(bytes: &[u8], size: u32, out: &mut [u8]) -> Written
+fn write_sized(bytes: &[u8], size: u32, out: &mut [u8]) -> Result<usize, Refusal>
     ensures { outcome result out.new ≡ write_sized bytes.now size out.old }
 {
-    match take(bytes) {
-        Taken::Refused(why) => Written::Refused(why),
-        Taken::Took(_) => {
-            let parsed = parse(bytes);
-            let record = parsed.record;
-            write(sized(record, size), out)
-        }
-    }
+    let parsed = parse(bytes)?;
+    write(sized(parsed.record, size), out)
 }
 
 // Writes those bytes.
@@ -188,6 +183,5 @@ fn write_sized(bytes: &[u8], size: u32, out: &mut [u8]) -> Written
 pub extern "C" fn probe_write(bytes: &[u8], size: u32, out: &mut [u8]) -> u64
     ensures { Comes result out.new (write_sized bytes.now size out.old) }
 {
-    let answer = write_sized(bytes, size, out);
-    answer.told().packed()
+    Told::from(write_sized(bytes, size, out)).packed()
 }

@@ -47,7 +47,7 @@ fn shown(stepped: Stepped, out: &mut [u8]) -> u64
 {
     let step = stepped.answer;
     let record = stepped.record;
-    write(record, out);
+    let _ = write(record, out);
     step.told().packed()
 }
 

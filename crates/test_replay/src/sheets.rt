@@ -1,7 +1,6 @@
 // What the port answers to the question on a sheet: the plain numbers, the case of each kind, the said bits.
-use crate::cases;
 use crate::cases::put_case;
-use answers::{Refusal, Taken};
+use answers::Refusal;
 use sheet::{NetworkCode, Sheet};
 
 // What the answer begins with where there is no whole record.
@@ -9,14 +8,9 @@ const REFUSED: u8 = 255;
 
 // The sheet of the record that the bytes hold.
 pub(crate) fn answer(bytes: &[u8], out: &mut [u8]) -> usize {
-    let parsed = reading::parse(bytes);
-    let answer = parsed.answer;
-    match answer {
-        Taken::Took(_) => {
-            let record = parsed.record;
-            put_sheet(sheet::sheet_of(record), out)
-        }
-        Taken::Refused(why) => put_refused(why, out),
+    match reading::parse(bytes) {
+        Ok(parsed) => put_sheet(sheet::sheet_of(parsed.record), out),
+        Err(why) => put_refused(why, out),
     }
 }
 
@@ -69,48 +63,32 @@ fn put_network_code(code: NetworkCode, at: usize, out: &mut [u8]) -> usize {
 
 // Puts the kinds from the gender to the long screen.
 fn put_layout(s: Sheet, at: usize, out: &mut [u8]) -> usize {
-    let gender = s.grammatical_gender;
-    let at = put_case(cases::gender(gender), at, out);
-    let layout_dir = s.layout_dir;
-    let at = put_case(cases::layout_dir(layout_dir), at, out);
-    let screen_size = s.screen_size;
-    let at = put_case(cases::screen_size(screen_size), at, out);
-    let screen_long = s.screen_long;
-    put_case(cases::screen_long(screen_long), at, out)
+    let at = put_case(s.grammatical_gender, at, out);
+    let at = put_case(s.layout_dir, at, out);
+    let at = put_case(s.screen_size, at, out);
+    put_case(s.screen_long, at, out)
 }
 
 // Puts the kinds from the round screen to HDR.
 fn put_screen(s: Sheet, at: usize, out: &mut [u8]) -> usize {
-    let screen_round = s.screen_round;
-    let at = put_case(cases::screen_round(screen_round), at, out);
-    let wide_color_gamut = s.wide_color_gamut;
-    let at = put_case(cases::wide_color_gamut(wide_color_gamut), at, out);
-    let hdr = s.hdr;
-    put_case(cases::hdr(hdr), at, out)
+    let at = put_case(s.screen_round, at, out);
+    let at = put_case(s.wide_color_gamut, at, out);
+    put_case(s.hdr, at, out)
 }
 
 // Puts the kinds from the orientation to the touch screen.
 fn put_mode(s: Sheet, at: usize, out: &mut [u8]) -> usize {
-    let orientation = s.orientation;
-    let at = put_case(cases::orientation(orientation), at, out);
-    let ui_mode = s.ui_mode;
-    let at = put_case(cases::ui_mode(ui_mode), at, out);
-    let ui_mode_night = s.ui_mode_night;
-    let at = put_case(cases::ui_mode_night(ui_mode_night), at, out);
-    let density = s.density;
-    let at = put_case(cases::density(density), at, out);
-    let touchscreen = s.touchscreen;
-    put_case(cases::touchscreen(touchscreen), at, out)
+    let at = put_case(s.orientation, at, out);
+    let at = put_case(s.ui_mode, at, out);
+    let at = put_case(s.ui_mode_night, at, out);
+    let at = put_case(s.density, at, out);
+    put_case(s.touchscreen, at, out)
 }
 
 // Puts the kinds of keys and navigation.
 fn put_input(s: Sheet, at: usize, out: &mut [u8]) -> usize {
-    let keys_hidden = s.keys_hidden;
-    let at = put_case(cases::keys_hidden(keys_hidden), at, out);
-    let keyboard = s.keyboard;
-    let at = put_case(cases::keyboard(keyboard), at, out);
-    let nav_hidden = s.nav_hidden;
-    let at = put_case(cases::nav_hidden(nav_hidden), at, out);
-    let navigation = s.navigation;
-    put_case(cases::navigation(navigation), at, out)
+    let at = put_case(s.keys_hidden, at, out);
+    let at = put_case(s.keyboard, at, out);
+    let at = put_case(s.nav_hidden, at, out);
+    put_case(s.navigation, at, out)
 }

@@ -5,7 +5,7 @@ ghost use Rattle.record.specs.Ages.{default_age};
 ghost use Rattle.runs.specs.Runs.{step_of, step_outcome};
 
 use crate::records::{put_fields, put_told};
-use answers::Counted;
+use answers::{Counted, Refusal, Told};
 use reader::RunReader;
 use record::Age;
 use runs::Stepped;
@@ -60,8 +60,7 @@ fn put_stepped(stepped: Stepped, out: &mut [u8]) -> usize {
 // Whether the record at an offset is held back.
 fn held(bytes: &[u8], offset: usize, age: Age, out: &mut [u8]) -> usize {
     let from = test_frames::front(offset, bytes);
-    let held = marking::held_back(&bytes[from..], age);
-    put_told(held.told(), out)
+    put_told(Told::from(marking::held_back(&bytes[from..], age)), out)
 }
 
 // Why the run from an offset on stops, where, and how many records it has.
@@ -80,20 +79,23 @@ fn wrote(tag: u8, bytes: &[u8], offset: usize, age: Age, lent: &[u8], out: &mut 
     if n < LENT {
         return 0;
     }
-    let counted = written(tag, bytes, offset, age, &mut out[LENT..n]);
-    let answer = counted.answer;
-    let at = put_told(answer.told(), out);
-    test_frames::put_eight(counted.replacements, at, out);
+    let answer = written(tag, bytes, offset, age, &mut out[LENT..n]);
+    let at = put_told(Told::from(answer), out);
+    let replacements = answer.map_or(0, |counted| counted.replacements);
+    test_frames::put_eight(replacements, at, out);
     n
 }
 
 // Writes the text or the marks of the record at an offset; marks have no replacements.
-fn written(tag: u8, bytes: &[u8], offset: usize, age: Age, out: &mut [u8]) -> Counted {
+fn written(
+    tag: u8,
+    bytes: &[u8],
+    offset: usize,
+    age: Age,
+    out: &mut [u8],
+) -> Result<Counted, Refusal> {
     match tag {
         41 => shown_at::text_at(bytes, offset, age, out),
-        _ => {
-            let answer = shown_at::marks_at(bytes, offset, age, out);
-            answer.counted(0)
-        }
+        _ => Counted::of(shown_at::marks_at(bytes, offset, age, out), 0),
     }
 }

@@ -1,8 +1,7 @@
 // What the port answers to each kind of question on records, by its tag. The table of tests/rust has the same tags.
 use crate::offsets;
-use answers::{Refusal, Taken, Told, Written};
+use answers::{Refusal, Told};
 use kinds::Density;
-use order::Ordering;
 use reading::Parsed;
 use record::{Age, ResTableConfig};
 
@@ -39,8 +38,7 @@ fn refused(why: Refusal, out: &mut [u8]) -> usize {
 
 // How many bytes the record takes.
 fn take(bytes: &[u8], out: &mut [u8]) -> usize {
-    let answer = reading::take(bytes);
-    put_told(answer.told(), out)
+    put_told(Told::from(reading::take(bytes)), out)
 }
 
 // What parsing tells, and the fields of the record that it gives.
@@ -57,45 +55,41 @@ fn parse_aged(payload: &[u8], out: &mut [u8]) -> usize {
     put_parsed(reading::parse_aged(&payload[4..], age), out)
 }
 
-// Puts what a parse tells, and the fields.
-fn put_parsed(parsed: Parsed, out: &mut [u8]) -> usize {
-    let answer = parsed.answer;
-    let at = put_told(answer.told(), out);
-    let record = parsed.record;
-    put_fields(record, at, out)
+// Puts what a parse tells, and the fields; a refused parse gives a record that holds nothing.
+fn put_parsed(answer: Result<Parsed, Refusal>, out: &mut [u8]) -> usize {
+    match answer {
+        Ok(parsed) => {
+            let at = put_told(Told::success(parsed.taken), out);
+            put_fields(parsed.record, at, out)
+        }
+        Err(why) => {
+            let at = put_told(why.told(), out);
+            put_fields(record::blank(), at, out)
+        }
+    }
 }
 
 // The bytes that the writer gives for the record that parsing gives.
 fn written_back(bytes: &[u8], out: &mut [u8]) -> usize {
-    let parsed = reading::parse(bytes);
-    let answer = parsed.answer;
-    match answer {
-        Taken::Took(_) => {
-            let record = parsed.record;
-            put_written(record, out)
-        }
-        Taken::Refused(why) => refused(why, out),
+    match reading::parse(bytes) {
+        Ok(parsed) => put_written(parsed.record, out),
+        Err(why) => refused(why, out),
     }
 }
 
 // What the writer writes; a refusal, which no question should meet, leaves no answer.
 fn put_written(record: ResTableConfig, out: &mut [u8]) -> usize {
     match writing::write(record, out) {
-        Written::Wrote(n) => n,
-        Written::Refused(_) => 0,
+        Ok(n) => n,
+        Err(_) => 0,
     }
 }
 
 // Every accessor's numbers.
 fn accessors(bytes: &[u8], out: &mut [u8]) -> usize {
-    let parsed = reading::parse(bytes);
-    let answer = parsed.answer;
-    match answer {
-        Taken::Took(_) => {
-            let record = parsed.record;
-            put_accessed(record, out)
-        }
-        Taken::Refused(why) => refused(why, out),
+    match reading::parse(bytes) {
+        Ok(parsed) => put_accessed(parsed.record, out),
+        Err(why) => refused(why, out),
     }
 }
 
@@ -105,14 +99,9 @@ fn set_density(payload: &[u8], out: &mut [u8]) -> usize {
         return 0;
     }
     let density = Density::from(test_frames::two(payload));
-    let parsed = reading::parse(&payload[2..]);
-    let answer = parsed.answer;
-    match answer {
-        Taken::Took(_) => {
-            let record = parsed.record;
-            put_fields(record.set_density(density), 0, out)
-        }
-        Taken::Refused(why) => refused(why, out),
+    match reading::parse(&payload[2..]) {
+        Ok(parsed) => put_fields(parsed.record.set_density(density), 0, out),
+        Err(why) => refused(why, out),
     }
 }
 
@@ -128,42 +117,20 @@ fn compare(payload: &[u8], out: &mut [u8]) -> usize {
 
 // The answer on a pair, each in its own bytes. The first one's refusal comes before the second's.
 fn compare_parts(first: &[u8], second: &[u8], out: &mut [u8]) -> usize {
-    let a = reading::parse(first);
-    let b = reading::parse(second);
-    let answer = a.answer;
-    let other = b.answer;
-    match answer {
-        Taken::Refused(why) => refused(why, out),
-        Taken::Took(_) => match other {
-            Taken::Refused(why) => refused(why, out),
-            Taken::Took(_) => {
-                let first = a.record;
-                let second = b.record;
-                compare_records(first, second, out)
-            }
+    match reading::parse(first) {
+        Err(why) => refused(why, out),
+        Ok(a) => match reading::parse(second) {
+            Err(why) => refused(why, out),
+            Ok(b) => compare_records(a.record, b.record, out),
         },
     }
 }
 
 // The answer on two records.
 fn compare_records(a: ResTableConfig, b: ResTableConfig, out: &mut [u8]) -> usize {
-    let at = buffer::put_byte(yes(order::eq(a, b)), 0, out);
-    let at = buffer::put_byte(order_number(order::cmp(a, b)), at, out);
-    buffer::put_byte(order_number(order::cmp(b, a)), at, out)
-}
-
-// No is 0, yes is 1.
-fn yes(said: bool) -> u8 {
-    if said { 1 } else { 0 }
-}
-
-// The number of an order.
-fn order_number(ordering: Ordering) -> u8 {
-    match ordering {
-        Ordering::Less => 0,
-        Ordering::Equal => 1,
-        Ordering::Greater => 2,
-    }
+    let at = buffer::put_byte(u8::from(order::eq(a, b)), 0, out);
+    let at = buffer::put_byte(order::cmp(a, b).number() as u8, at, out);
+    buffer::put_byte(order::cmp(b, a).number() as u8, at, out)
 }
 
 // Puts the fifteen fields in their order.
@@ -193,35 +160,16 @@ fn put_words(r: ResTableConfig, at: usize, out: &mut [u8]) -> usize {
 
 // Puts script and variant.
 fn put_locale(r: ResTableConfig, at: usize, out: &mut [u8]) -> usize {
-    let script = r.locale_script;
-    let at = put_4(script, at, out);
-    let variant = r.locale_variant;
-    put_8(variant, at, out)
+    let at = buffer::put(&r.locale_script, at, out);
+    buffer::put(&r.locale_variant, at, out)
 }
 
 // Puts the last four fields.
 fn put_last(r: ResTableConfig, at: usize, out: &mut [u8]) -> usize {
     let at = test_frames::put_four(r.screen_config_2, at, out);
-    let at = buffer::put_byte(yes(r.locale_script_was_computed), at, out);
-    let numbering = r.locale_numbering_system;
-    let at = put_8(numbering, at, out);
-    let padding = r.end_padding;
-    put_3(padding, at, out)
-}
-
-// Puts an array of three bytes.
-fn put_3(bytes: [u8; 3], at: usize, out: &mut [u8]) -> usize {
-    buffer::put(&bytes, at, out)
-}
-
-// Puts an array of four bytes.
-fn put_4(bytes: [u8; 4], at: usize, out: &mut [u8]) -> usize {
-    buffer::put(&bytes, at, out)
-}
-
-// Puts an array of eight bytes.
-fn put_8(bytes: [u8; 8], at: usize, out: &mut [u8]) -> usize {
-    buffer::put(&bytes, at, out)
+    let at = buffer::put_byte(u8::from(r.locale_script_was_computed), at, out);
+    let at = buffer::put(&r.locale_numbering_system, at, out);
+    buffer::put(&r.end_padding, at, out)
 }
 
 // Puts what every accessor gives, in 000's order.

@@ -1,5 +1,5 @@
 // What the port answers to each kind of question on texts, by its tag. The table of tests/rust has the same tags.
-use answers::{Counted, Refusal, Taken, Written};
+use answers::{Counted, Refusal};
 use record::ResTableConfig;
 
 // What the answer begins with where there is no whole record, or where the port refuses to write: a text's answer begins with 0.
@@ -13,15 +13,13 @@ pub(crate) fn answer(tag: u8, payload: &[u8], out: &mut [u8]) -> usize {
     if out.len() < TEXT {
         return 0;
     }
-    let counted = written(tag, payload, &mut out[TEXT..]);
-    let answer = counted.answer;
-    match answer {
-        Written::Wrote(n) => {
+    match written(tag, payload, &mut out[TEXT..]) {
+        Ok(counted) => {
             let at = buffer::put_byte(0, 0, out);
             let at = test_frames::put_eight(counted.replacements, at, out);
-            std::num::wrapping_add_usize(at, n)
+            std::num::wrapping_add_usize(at, counted.length)
         }
-        Written::Refused(why) => put_refused(why, out),
+        Err(why) => put_refused(why, out),
     }
 }
 
@@ -33,37 +31,24 @@ fn put_refused(why: Refusal, out: &mut [u8]) -> usize {
 }
 
 // Writes the text that a question asks for. A tag that is none of these is refused.
-fn written(tag: u8, payload: &[u8], out: &mut [u8]) -> Counted {
+fn written(tag: u8, payload: &[u8], out: &mut [u8]) -> Result<Counted, Refusal> {
     match tag {
         48 => of_record(true, payload, out),
         49 => of_record(false, payload, out),
         50 | 51 => of_pair(tag, payload, out),
         52 => subtag::write_subtag(payload, out),
-        _ => refused(Refusal::TooFewBytes),
+        _ => Err(Refusal::TooFewBytes),
     }
-}
-
-// There is no text.
-fn refused(why: Refusal) -> Counted {
-    let answer = Written::Refused(why);
-    answer.counted(0)
 }
 
 // Writes the text of the record that the bytes hold: the whole one, or what its locale says.
-fn of_record(whole: bool, bytes: &[u8], out: &mut [u8]) -> Counted {
-    let parsed = reading::parse(bytes);
-    let answer = parsed.answer;
-    match answer {
-        Taken::Took(_) => {
-            let record = parsed.record;
-            of_taken(whole, record, out)
-        }
-        Taken::Refused(why) => refused(why),
-    }
+fn of_record(whole: bool, bytes: &[u8], out: &mut [u8]) -> Result<Counted, Refusal> {
+    let parsed = reading::parse(bytes)?;
+    of_taken(whole, parsed.record, out)
 }
 
 // Writes the text of a record.
-fn of_taken(whole: bool, record: ResTableConfig, out: &mut [u8]) -> Counted {
+fn of_taken(whole: bool, record: ResTableConfig, out: &mut [u8]) -> Result<Counted, Refusal> {
     if whole {
         text::as_string(record, out)
     } else {
@@ -72,9 +57,9 @@ fn of_taken(whole: bool, record: ResTableConfig, out: &mut [u8]) -> Counted {
 }
 
 // Writes the words of the language or the region that two bytes hold.
-fn of_pair(tag: u8, pair: &[u8], out: &mut [u8]) -> Counted {
+fn of_pair(tag: u8, pair: &[u8], out: &mut [u8]) -> Result<Counted, Refusal> {
     if pair.len() < 2 {
-        return refused(Refusal::TooFewBytes);
+        return Err(Refusal::TooFewBytes);
     }
     match tag {
         50 => language::write_language(pair[0], pair[1], out),

@@ -7,7 +7,6 @@ use Rattle.buffer.specs.Counted.{CountedOutcome, counting}
 use Rattle.locale.specs.Subtags.{text_replacements}
 use Rattle.reading.specs.Reading.{plain, aged, if_whole, if_age}
 use Rattle.marking.specs.Marks.{held_back}
-use Rattle.text.specs.declared.Replaced.{Replaced}
 use Rattle.text.specs.Text.{plain_text, aged_text}
 
 -- a plain text, with its replacements
@@ -21,8 +20,3 @@ counted_aged a s old = counting (text_replacements (aged a s)) (aged_text a s ol
 -- how many replacements the text for a reader of age a has: 3, 1, 2 or 8, then 4
 abbrev pub replacements_of : ℕ → List ℕ → Told
 replacements_of a s = if_age a refusal (if_whole s refusal (cond (held_back a s) (refusal Refusal.HeldBack) (success (text_replacements (aged a s)))))
-
--- what the answer of that call tells
-abbrev pub replaced_tells : Replaced → Told
-replaced_tells (Replaced.Count n) = success n
-replaced_tells (Replaced.Refused why) = refusal why

@@ -6,17 +6,16 @@ ghost use Rattle.places.specs.Say.{say_all};
 ghost use Rattle.places.specs.Places.{kind_place, some};
 
 use buffer::decimal_length;
-use kinds::Kind;
-use said_kinds::kind_said;
+use said_kinds::Said;
 use words_length::words_length;
 
 // A kind adds a dash and its words where it is said.
-pub(crate) fn kind_cost(kind: Kind) -> usize
-    ensures result_value { suc result ≡ length (say_all (ascii "-") (kind_place kind ∷ [])) }
+pub(crate) fn kind_cost<K: Said>(kind: K) -> usize
+    ensures result_value { suc result ≡ length (say_all (ascii "-") (kind_place (K.as_kind kind) ∷ [])) }
     ensures upper_bound { result ≤ 26 }
 {
-    if kind_said(kind) {
-        1 + words_length(kind)
+    if kind.is_said() {
+        1 + words_length(kind.as_kind())
     } else {
         0
     }

@@ -6,7 +6,7 @@ ghost use Rattle.places.specs.Places.{places_of};
 
 use crate::cost::{kind_cost, number_cost};
 use kinds::{
-    GrammaticalGender, Hdr, Kind, LayoutDir, Orientation, ScreenLong, ScreenRound, ScreenSize,
+    GrammaticalGender, Hdr, LayoutDir, Orientation, ScreenLong, ScreenRound, ScreenSize,
     WideColorGamut,
 };
 use locale::locale_length;
@@ -44,7 +44,7 @@ fn gender_cost(r: ResTableConfig) -> usize
         return 0;
     }
     let gender = GrammaticalGender::from(r.get_grammatical_inflection());
-    kind_cost(Kind::GrammaticalGender(gender))
+    kind_cost(gender)
 }
 
 // Places 4, 5, 8 and 9: layout direction, smallest width, size and long, of `screen_config`.
@@ -59,10 +59,10 @@ fn layout_cost(r: ResTableConfig) -> usize
     let direction = LayoutDir::from(layout.screen_layout);
     let size = ScreenSize::from(layout.screen_layout);
     let long = ScreenLong::from(layout.screen_layout);
-    kind_cost(Kind::LayoutDir(direction))
+    kind_cost(direction)
         + number_cost(5, layout.smallest_screen_width_dp)
-        + kind_cost(Kind::ScreenSize(size))
-        + kind_cost(Kind::ScreenLong(long))
+        + kind_cost(size)
+        + kind_cost(long)
 }
 
 // Places 6 and 7: width and height, of `screen_size_dp`.
@@ -89,9 +89,7 @@ fn second_cost(r: ResTableConfig) -> usize
     let round = ScreenRound::from(second.screen_layout_2);
     let gamut = WideColorGamut::from(second.color_mode);
     let hdr = Hdr::from(second.color_mode);
-    kind_cost(Kind::ScreenRound(round))
-        + kind_cost(Kind::WideColorGamut(gamut))
-        + kind_cost(Kind::Hdr(hdr))
+    kind_cost(round) + kind_cost(gamut) + kind_cost(hdr)
 }
 
 // Place 13: the orientation, of `screen_type`.
@@ -104,7 +102,7 @@ fn orientation_cost(r: ResTableConfig) -> usize
     }
     let screen = r.get_orientation_touchscreen_density();
     let orientation = Orientation::from(screen.orientation);
-    kind_cost(Kind::Orientation(orientation))
+    kind_cost(orientation)
 }
 
 // Places 0 to 13, of which the locale adds so much.

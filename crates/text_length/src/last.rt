@@ -6,7 +6,7 @@ ghost use Rattle.places.specs.Places.{places_of};
 
 use crate::cost::{digits, kind_cost, number_cost};
 use kinds::{
-    Density, Keyboard, KeysHidden, Kind, NavHidden, Navigation, Touchscreen, UIMode, UIModeNight,
+    Density, Keyboard, KeysHidden, NavHidden, Navigation, Touchscreen, UIMode, UIModeNight,
 };
 use record::ResTableConfig;
 
@@ -20,7 +20,7 @@ pub(crate) fn mode_cost(r: ResTableConfig) -> usize
     }
     let layout = r.get_screen_layout_ui_smallest_width();
     let mode = UIMode::from(layout.ui_mode);
-    kind_cost(Kind::UIMode(mode))
+    kind_cost(mode)
 }
 
 // Place 15: night, of `screen_config`.
@@ -33,7 +33,7 @@ fn night_cost(r: ResTableConfig) -> usize
     }
     let layout = r.get_screen_layout_ui_smallest_width();
     let night = UIModeNight::from(layout.ui_mode);
-    kind_cost(Kind::UIModeNight(night))
+    kind_cost(night)
 }
 
 // Places 16 and 17: density and touch, of `screen_type`.
@@ -47,7 +47,7 @@ fn screen_cost(r: ResTableConfig) -> usize
     let screen = r.get_orientation_touchscreen_density();
     let density = Density::from(screen.density);
     let touchscreen = Touchscreen::from(screen.touchscreen);
-    kind_cost(Kind::Density(density)) + kind_cost(Kind::Touchscreen(touchscreen))
+    kind_cost(density) + kind_cost(touchscreen)
 }
 
 // Places 18 to 21: keys and navigation, of `generic_purpose_field`.
@@ -63,10 +63,7 @@ fn keys_cost(r: ResTableConfig) -> usize
     let keyboard = Keyboard::from(input.keyboard);
     let nav_hidden = NavHidden::from(input.input_flags);
     let navigation = Navigation::from(input.navigation);
-    kind_cost(Kind::KeysHidden(keys_hidden))
-        + kind_cost(Kind::Keyboard(keyboard))
-        + kind_cost(Kind::NavHidden(nav_hidden))
-        + kind_cost(Kind::Navigation(navigation))
+    kind_cost(keys_hidden) + kind_cost(keyboard) + kind_cost(nav_hidden) + kind_cost(navigation)
 }
 
 // Place 22: both sides in pixels, behind a dash and around an x.

@@ -1,1 +1,5 @@
+pub mod Input
+pub mod Layout
+pub mod Mode
+pub mod Screen
 pub mod Words

@@ -1,10 +1,10 @@
 -- The words of any kind. Assumes nothing.
 use Rattle.std.specs.Prelude.{ℕ, List}
 use Rattle.kinds.specs.declared.Kind.{Kind}
-use Rattle.words_layout.specs.Layout.{layout_dir_words, screen_size_words, screen_long_words, screen_round_words}
-use Rattle.words_screen.specs.Screen.{wide_color_gamut_words, hdr_words, orientation_words, density_words}
-use Rattle.words_mode.specs.Mode.{grammatical_gender_words, ui_mode_words, ui_mode_night_words}
-use Rattle.words_input.specs.Input.{touchscreen_words, keys_hidden_words, keyboard_words, nav_hidden_words, navigation_words}
+use Rattle.words.specs.Layout.{layout_dir_words, screen_size_words, screen_long_words, screen_round_words}
+use Rattle.words.specs.Screen.{wide_color_gamut_words, hdr_words, orientation_words, density_words}
+use Rattle.words.specs.Mode.{grammatical_gender_words, ui_mode_words, ui_mode_night_words}
+use Rattle.words.specs.Input.{touchscreen_words, keys_hidden_words, keyboard_words, nav_hidden_words, navigation_words}
 
 -- what 000 displays of a kind
 abbrev pub words_of : Kind → List ℕ

@@ -1,30 +1,48 @@
 #![tactic(auto)]
 // The words of the sixteen kinds, as 000 displays them.
+mod input;
+mod layout;
+mod mode;
+mod screen;
+
+ghost use Rattle.std.specs.Prelude.{ℕ, List};
 ghost use Rattle.buffer.specs.Put.{Put};
 ghost use Rattle.words.specs.Words.{words_of};
 
 use kinds::Kind;
 
-// Puts the words of a kind. Machinery: it stops at the buffer's end and refuses nothing.
-pub fn put_words(kind: Kind, at: usize, out: &mut [u8]) -> usize
-    ensures { Put out.old at (words_of kind) out.new result }
-{
-    match kind {
-        Kind::GrammaticalGender(k) => words_mode::put_grammatical_gender(k, at, out),
-        Kind::LayoutDir(k) => words_layout::put_layout_dir(k, at, out),
-        Kind::ScreenSize(k) => words_layout::put_screen_size(k, at, out),
-        Kind::ScreenLong(k) => words_layout::put_screen_long(k, at, out),
-        Kind::ScreenRound(k) => words_layout::put_screen_round(k, at, out),
-        Kind::WideColorGamut(k) => words_screen::put_wide_color_gamut(k, at, out),
-        Kind::Hdr(k) => words_screen::put_hdr(k, at, out),
-        Kind::Orientation(k) => words_screen::put_orientation(k, at, out),
-        Kind::UIMode(k) => words_mode::put_ui_mode(k, at, out),
-        Kind::UIModeNight(k) => words_mode::put_ui_mode_night(k, at, out),
-        Kind::Density(k) => words_screen::put_density(k, at, out),
-        Kind::Touchscreen(k) => words_input::put_touchscreen(k, at, out),
-        Kind::KeysHidden(k) => words_input::put_keys_hidden(k, at, out),
-        Kind::Keyboard(k) => words_input::put_keyboard(k, at, out),
-        Kind::NavHidden(k) => words_input::put_nav_hidden(k, at, out),
-        Kind::Navigation(k) => words_input::put_navigation(k, at, out),
+// A kind that has words.
+pub trait Words: Copy {
+    // Its words.
+    ghost words: { Self → List ℕ };
+
+    // Puts the words. Machinery: it stops at the buffer's end and refuses nothing.
+    fn put_words(self, at: usize, out: &mut [u8]) -> usize
+        ensures { Put out.old at (words self) out.new result };
+}
+
+// The words of any of the sixteen.
+impl Words for Kind {
+    ghost words = { words_of };
+
+    fn put_words(self, at: usize, out: &mut [u8]) -> usize {
+        match self {
+            Kind::GrammaticalGender(kind) => kind.put_words(at, out),
+            Kind::LayoutDir(kind) => kind.put_words(at, out),
+            Kind::ScreenSize(kind) => kind.put_words(at, out),
+            Kind::ScreenLong(kind) => kind.put_words(at, out),
+            Kind::ScreenRound(kind) => kind.put_words(at, out),
+            Kind::WideColorGamut(kind) => kind.put_words(at, out),
+            Kind::Hdr(kind) => kind.put_words(at, out),
+            Kind::Orientation(kind) => kind.put_words(at, out),
+            Kind::UIMode(kind) => kind.put_words(at, out),
+            Kind::UIModeNight(kind) => kind.put_words(at, out),
+            Kind::Density(kind) => kind.put_words(at, out),
+            Kind::Touchscreen(kind) => kind.put_words(at, out),
+            Kind::KeysHidden(kind) => kind.put_words(at, out),
+            Kind::Keyboard(kind) => kind.put_words(at, out),
+            Kind::NavHidden(kind) => kind.put_words(at, out),
+            Kind::Navigation(kind) => kind.put_words(at, out),
+        }
     }
 }

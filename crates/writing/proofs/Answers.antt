@@ -11,7 +11,7 @@ use borrow.Author.Tests.{not-false, ltb-false, leb-true, le-leb}
 use Rattle.laws.proofs.Tests.{or_neither, or_right}
 use Rattle.laws.proofs.Below.{each_spot, each_stop, each_at, each_here, in_row}
 use Rattle.answers.specs.declared.Refusal.{Refusal}
-use Rattle.answers.specs.declared.Written.{Written}
+use Rattle.std.specs.Prelude.{Result, Ok, Err}
 use Rattle.answers.proofs.Exactly.{Goes, one_unless}
 use Rattle.buffer.specs.Written.{outcome, written, wrote, refused}
 use Rattle.buffer.specs.Demand1.{shorter_than}
@@ -45,12 +45,12 @@ module _ (r : ResTableConfig) (w : Shaped r) (old : List ℕ) (fine : tidy r ≡
 
   -- what is left where T bytes were cleared and the fields laid over them
   pub laid-is : (t : ℕ) (cleared new : List ℕ) → t ≡ span r → t ≤ length old → cleared ≡ replicate t 0 ++ drop t old → new ≡ bytes_written r ++ drop t cleared
-      → outcome (Written.Wrote t) new ≡ write_of r old
+      → outcome (Ok t) new ≡ write_of r old
   laid-is t cleared new e h c n =
       let l : t ≡ length (bytes_written r) = e ∙ sym (written_long r w) in
       let d : drop t cleared ≡ drop t old = ap (drop t) c ∙ drop_at (replicate t 0) (drop t old) t (length-replicate {A = ℕ} t 0) in
-      ap (outcome (Written.Wrote t)) (n ∙ ap (λ (o : List ℕ). bytes_written r ++ o) d)
-      ∙ ap (λ (k : ℕ). outcome (Written.Wrote k) (bytes_written r ++ drop k old)) l
+      ap (outcome (Ok t)) (n ∙ ap (λ (o : List ℕ). bytes_written r ++ o) d)
+      ∙ ap (λ (k : ℕ). outcome (Ok k) (bytes_written r ++ drop k old)) l
       ∙ sym (wrote-is (omega arith))
 
 stray : (r : ResTableConfig) → tidy r ≡ false → Stray r

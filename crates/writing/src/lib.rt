@@ -7,7 +7,7 @@ ghost use Rattle.record.specs.Table.{bit, width_of};
 ghost use Rattle.record.specs.Shape.{Shaped};
 ghost use Rattle.writing.specs.Writing.{bytes4, bytes_of, bytes_written, span, tidy, write_of};
 
-use answers::{Refusal, Written};
+use answers::Refusal;
 use marking::late_bytes;
 use record::{ENDS, ResTableConfig, STARTS};
 
@@ -22,11 +22,7 @@ fn put_at(x: &[u8], n: usize, at: usize, out: &mut [u8])
     requires { (at + n ≤ length out.old) × (n ≤ length x.now) }
     ensures { out.new ≡ paste out.old at x.now n }
 {
-    let mut i: usize = 0;
-    while i < n {
-        out[at + i] = x[i];
-        i += 1;
-    }
+    out[at..at + n].copy_from_slice(&x[..n]);
 }
 
 // Makes the first t bytes zero.
@@ -34,11 +30,7 @@ fn clear(t: usize, out: &mut [u8])
     requires { t ≤ length out.old }
     ensures { out.new ≡ replicate t 0 ++ drop t out.old }
 {
-    let mut i: usize = 0;
-    while i < t {
-        out[i] = 0;
-        i += 1;
-    }
+    out[..t].fill(0);
 }
 
 // The bytes of a word, and zeros.
@@ -122,19 +114,15 @@ fn is_tidy(r: ResTableConfig, t: usize) -> bool
     if 64 <= t {
         return true;
     }
-    let starts = STARTS;
-    let ends = ENDS;
-    let mut f: usize = 0;
-    while f < 15 {
-        let end = ends[f];
+    for f in 0..15 {
+        let end = ENDS[f];
         if t < end {
-            let start = starts[f];
+            let start = STARTS[f];
             let x = field_of(r, f);
             if late_bytes(&x, end - start, 0) {
                 return false;
             }
         }
-        f += 1;
     }
     true
 }
@@ -144,45 +132,36 @@ fn lay(r: ResTableConfig, t: usize, out: &mut [u8])
     requires { (t ≡ span r) × ((t ≤ length out.old) × (take t out.old ≡ replicate t 0)) }
     ensures { out.new ≡ bytes_written r ++ drop t out.old }
 {
-    let starts = STARTS;
-    let ends = ENDS;
-    let mut f: usize = 0;
-    while f < 15 {
-        let end = ends[f];
+    for f in 0..15 {
+        let end = ENDS[f];
         if end <= t {
-            let start = starts[f];
+            let start = STARTS[f];
             let x = field_of(r, f);
             put_at(&x, end - start, start, out);
         }
-        f += 1;
     }
 }
 
 // Writes a record that takes t bytes.
-fn write_long(r: ResTableConfig, t: usize, out: &mut [u8]) -> Written
+fn write_long(r: ResTableConfig, t: usize, out: &mut [u8]) -> Result<usize, Refusal>
     requires { t ≡ span r }
     ensures { outcome result out.new ≡ write_of r out.old }
 {
-    if is_tidy(r, t) {
-        if out.len() < t {
-            return Written::Refused(Refusal::ShortBuffer);
-        }
-        clear(t, out);
-        lay(r, t, out);
-        Written::Wrote(t)
-    } else {
-        Written::Refused(Refusal::UnreadField)
+    if !is_tidy(r, t) {
+        return Err(Refusal::UnreadField);
     }
+    if out.len() < t {
+        return Err(Refusal::ShortBuffer);
+    }
+    clear(t, out);
+    lay(r, t, out);
+    Ok(t)
 }
 
 // Writes the bytes of a record for its own size.
-pub fn write(r: ResTableConfig, out: &mut [u8]) -> Written
+pub fn write(r: ResTableConfig, out: &mut [u8]) -> Result<usize, Refusal>
     ensures { outcome result out.new ≡ write_of r out.old }
 {
     let size = r.size as usize;
-    if size < 16 {
-        write_long(r, 16, out)
-    } else {
-        write_long(r, size, out)
-    }
+    write_long(r, size.max(16), out)
 }

@@ -1,13 +1,6 @@
--- The invariant: the digits that are counted, and those of what is left, are those of n, one of them twice. Assumes nothing.
-use native.Mathlib.Omega.{arith}
-use Rattle.buffer.proofs.Digits.{decimal_long, decimal_more_length, decimal_one_length}
+-- The digits go by the power of ten that is reached. Assumes nothing.
+use Rattle.buffer.proofs.Digits.{decimal_power}
 use Rattle.buffer.proofs.decimal_length.Goals as goal
 
-pub overflow_add-digits : goal.overflow_add-digits
-overflow_add-digits c = omega (arith, c.loop-left.invariant, decimal_long 19 c.args.n (omega arith))
-
-pub loop-left-preserved : goal.loop-left-preserved
-loop-left-preserved c = omega (arith, c.loop-left.invariant, decimal_more_length c.loop-left.left (omega arith))
-
 pub returns : goal.returns
-returns c = omega (arith, c.loop-left.invariant, decimal_one_length c.loop-left.left (omega arith))
+returns c = decimal_power c.ilog10.result c.args.n c.max.ensures c.ilog10.ensures.power_le c.ilog10.ensures.next_power_gt

@@ -1,12 +1,10 @@
--- `put` meets its contract. The invariant: the first j of the bytes are put. Assumes nothing.
-use native.Mathlib.Numerals.{add-one}
+-- `put` meets its contract. Assumes nothing.
 use native.Mathlib.Omega.{arith}
-use borrow.Author.Rules.{rules}
-use Rattle.buffer.proofs.Putting.{put_nil, put_turn}
+use Rattle.buffer.proofs.Putting.{put_nil, put_past, put_part}
 use Rattle.buffer.proofs.put.Goals as goal
 
-pub loop-j-init : goal.loop-j-init
-loop-j-init c = (search rules, search rules, put_nil)
+pub returns-then-out-at : goal.returns-then-out-at
+returns-then-out-at c = put_past _ c.if-out-at.true put_nil
 
-pub loop-j-preserved : goal.loop-j-preserved
-loop-j-preserved c = (omega arith, omega arith, rw add-one (put_turn _ c.loop-j.j (omega arith) c.loop-j.invariant.2 c.put_byte-o.ensures))
+pub returns : goal.returns
+returns c = put_part _ c.if-out-at.false c.min-n.ensures c.copy_from_slice.ensures.after (omega arith)

@@ -1,6 +1,7 @@
 -- 3 first, then the exact end; else what `parse_chunk` gives of the bytes from the offset on. Assumes nothing.
 use Prim.Native.Nat.{◌+◌}
-use mathlib.Core.Path.{sym, ap, ◌∙◌}
+use mathlib.Core.Path.{refl, sym, ap, ◌∙◌}
+use Rattle.std.specs.Prelude.{Ok, Err}
 use native.Mathlib.Omega.{arith}
 use borrow.Author.Rules.{rules}
 use borrow.Author.Tests.{not-true, not-false}
@@ -24,18 +25,18 @@ returns-then-offset-bytes c = c.stays-then-offset-bytes.ensures
 pub overflow_add-result : goal.overflow_add-result
 overflow_add-result c = let age = sym (c.if-not-is_age.false) ∙ c.is_age.ensures in
     let there = rest_from c.args.bytes.now c.args.offset _ c.lesser-from.ensures in
-    let front = parsed_front c.args.age.0 c.args.bytes.now c.args.offset age _ there c.parse_chunk-parsed.result c.parse_chunk-parsed.ensures c.if-offset-bytes.false _ c.in-Took.is in
+    let front = parsed_front c.args.age.0 c.args.bytes.now c.args.offset age _ there (Ok c.in-Ok.parsed) c.in-Ok.ensures c.if-offset-bytes.false (Ok c.in-Ok.parsed.taken) refl in
     omega (arith, within (chunk_run c.args.bytes.now) c.args.offset _ front)
 
-pub returns-in-Took : goal.returns-in-Took
-returns-in-Took c = let age = sym (c.if-not-is_age.false) ∙ c.is_age.ensures in
+pub returns-in-Ok : goal.returns-in-Ok
+returns-in-Ok c = let age = sym (c.if-not-is_age.false) ∙ c.is_age.ensures in
     let there = rest_from c.args.bytes.now c.args.offset _ c.lesser-from.ensures in
-    let front = parsed_front c.args.age.0 c.args.bytes.now c.args.offset age _ there c.parse_chunk-parsed.result c.parse_chunk-parsed.ensures c.if-offset-bytes.false _ c.in-Took.is in
-    let gives = parsed_record c.args.age.0 c.args.bytes.now c.args.offset age _ there c.parse_chunk-parsed.result c.parse_chunk-parsed.ensures c.in-Took.n c.in-Took.is in
-    ap (λ (r : ResTableConfig). finds (c.args.offset + c.in-Took.n) r) gives ∙ sym (finds_one (chunk_steps c.args.age.0 c.args.bytes.now) age c.args.offset _ front)
+    let front = parsed_front c.args.age.0 c.args.bytes.now c.args.offset age _ there (Ok c.in-Ok.parsed) c.in-Ok.ensures c.if-offset-bytes.false (Ok c.in-Ok.parsed.taken) refl in
+    let gives = parsed_record c.args.age.0 c.args.bytes.now c.args.offset age _ there (Ok c.in-Ok.parsed) c.in-Ok.ensures c.in-Ok.parsed.taken refl in
+    ap (λ (r : ResTableConfig). finds (c.args.offset + c.in-Ok.parsed.taken) r) gives ∙ sym (finds_one (chunk_steps c.args.age.0 c.args.bytes.now) age c.args.offset _ front)
 
-pub returns-in-Refused : goal.returns-in-Refused
-returns-in-Refused c = let age = sym (c.if-not-is_age.false) ∙ c.is_age.ensures in
+pub returns-in-Err : goal.returns-in-Err
+returns-in-Err c = let age = sym (c.if-not-is_age.false) ∙ c.is_age.ensures in
     let there = rest_from c.args.bytes.now c.args.offset _ c.lesser-from.ensures in
-    let front = parsed_front c.args.age.0 c.args.bytes.now c.args.offset age _ there c.parse_chunk-parsed.result c.parse_chunk-parsed.ensures c.if-offset-bytes.false _ c.in-Refused.is in
-    c.stays-in-Refused.ensures ∙ sym (finds_none (chunk_steps c.args.age.0 c.args.bytes.now) age c.args.offset _ front)
+    let front = parsed_front c.args.age.0 c.args.bytes.now c.args.offset age _ there (Err c.in-Err.why) c.in-Err.ensures c.if-offset-bytes.false (Err c.in-Err.why) refl in
+    c.stays-in-Err.ensures ∙ sym (finds_none (chunk_steps c.args.age.0 c.args.bytes.now) age c.args.offset _ front)

@@ -9,7 +9,7 @@ pub returns-then-entries-at : goal.returns-then-entries-at
 returns-then-entries-at c = (omega arith, byte_apart c.args.entries.now c.args.at c.args.key.now c.loop-i.i (omega arith) c.if-entries-at.true ∙ sym (ne_eqb c.loop-i.i 60 (λ e. omega arith)))
 
 pub loop-i-preserved : goal.loop-i-preserved
-loop-i-preserved c = (omega arith, c.loop-i.invariant.1 ∙ byte_passed c.args.entries.now c.args.at c.args.key.now c.requires.0 c.requires.1 c.loop-i.i (omega arith) c.if-entries-at.false)
+loop-i-preserved c = c.loop-i.invariant ∙ byte_passed c.args.entries.now c.args.at c.args.key.now c.requires.0 c.requires.1 c.loop-i.i (omega arith) c.if-entries-at.false
 
 pub returns : goal.returns
-returns c = (omega arith, c.loop-i.invariant.1 ∙ all_passed c.args.entries.now c.args.at c.args.key.now c.requires.0 c.requires.1 c.loop-i.i (omega arith))
+returns c = (omega arith, c.loop-i.invariant ∙ all_passed c.args.entries.now c.args.at c.args.key.now c.requires.0 c.requires.1 c.loop-i.i (omega arith))

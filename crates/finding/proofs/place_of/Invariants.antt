@@ -1,11 +1,8 @@
 -- The loop passes the entries that don't have the key, so it stops at the first that has. Assumes nothing.
-use Prim.Native.Nat.{◌-◌, ◌≤◌, ◌<◌}
+use Prim.Native.Nat.{◌<◌}
 use Rattle.laws.proofs.Least.{NoneBelow}
-use Rattle.finding.specs.Finding.{whole_in, has_key}
+use Rattle.finding.specs.Finding.{has_key}
 use Rattle.finding.proofs.place_of.Given as goal
 
 abbrev pub invariant-loop-place : goal.invariant-loop-place
-invariant-loop-place l = (l.place ≤ whole_in l.entries) × (l.spot < 60) × NoneBelow (has_key l.entries l.key) l.place
-
-abbrev pub decreases-loop-place : goal.decreases-loop-place
-decreases-loop-place l = l.whole - l.place
+invariant-loop-place l = (l.spot < 60) × NoneBelow (has_key l.entries l.key) l.place

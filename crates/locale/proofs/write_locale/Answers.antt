@@ -6,4 +6,4 @@ pub returns-then-out-said_length : goal.returns-then-out-said_length
 returns-then-out-said_length c = copy_short _ _ _ (rw c.said_length.ensures at c.if-out-said_length.true)
 
 pub returns : goal.returns
-returns c = copy_written (rw c.said_length.ensures at c.if-out-said_length.false) c.put_said-copied.ensures
+returns c = rw c.into.ensures (copy_written (rw c.said_length.ensures at c.if-out-said_length.false) c.put_said.ensures)

@@ -1,22 +1,17 @@
 -- 3, then the refusals of `take`, then what the bytes say. Assumes nothing.
-use mathlib.Core.Path.{sym, ap, ◌∙◌}
-use mathlib.Core.Bool.{true, false}
-use Rattle.answers.specs.Tells.{taken_tells}
-use Rattle.reading.proofs.Whole.{age_unknown}
-use Rattle.marking.proofs.Answering.{refuses, held_said}
+use mathlib.Core.Path.{sym, ◌∙◌}
+use Rattle.marking.specs.Marks.{held_tells}
+use Rattle.reading.proofs.Going.{end_passed, take_passed, ended, end_is}
+use Rattle.reading.proofs.Whole.{end_known}
+use Rattle.marking.proofs.Answering.{held_said}
 use Rattle.marking.proofs.held_back.Goals as goal
 
-pub returns-then-not-is_age : goal.returns-then-not-is_age
-returns-then-not-is_age c = sym (age_unknown _ _ _ (sym (c.if-not-is_age.true) ∙ c.is_age.ensures))
+pub returns : goal.returns
+returns c = held_said _ c.args.bytes.now c.in_ok-taken.taken c.late_bytes.result (end_known _ _ c.in_ok-from.ensures).0 c.in_ok-taken.ensures
+    (rw (← end_is _ _ c.in_ok-from.ensures) c.late_bytes.ensures)
 
-pub returns-then-late_bytes : goal.returns-then-late_bytes
-returns-then-late_bytes c = held_said _ c.args.bytes.now c.in-Took.n true (sym (c.if-not-is_age.false) ∙ c.is_age.ensures)
-    (sym (ap taken_tells c.in-Took.is) ∙ c.take.ensures) (sym c.if-late_bytes.true ∙ c.late_bytes.ensures)
+pub returns-in_err-from : goal.returns-in_err-from
+returns-in_err-from c = end_passed held_tells _ _ _ c.in_err-from.ensures c.from_residual.ensures.1
 
-pub returns-else-late_bytes : goal.returns-else-late_bytes
-returns-else-late_bytes c = held_said _ c.args.bytes.now c.in-Took.n false (sym (c.if-not-is_age.false) ∙ c.is_age.ensures)
-    (sym (ap taken_tells c.in-Took.is) ∙ c.take.ensures) (sym c.if-late_bytes.false ∙ c.late_bytes.ensures)
-
-pub returns-in-Refused : goal.returns-in-Refused
-returns-in-Refused c = sym (refuses _ c.args.bytes.now _ _ (sym (c.if-not-is_age.false) ∙ c.is_age.ensures) c.in-Refused.why
-    (sym (ap taken_tells c.in-Refused.is) ∙ c.take.ensures))
+pub returns-in_err-taken : goal.returns-in_err-taken
+returns-in_err-taken c = take_passed held_tells _ _ _ c.in_err-taken.ensures c.from_residual-in_err-taken.ensures.1 ∙ sym (ended _ _ _ _ c.in_ok-from.ensures)

@@ -1,18 +1,16 @@
 -- 3, then the refusals of `take`, then the word is given. Assumes nothing.
 use mathlib.Core.Path.{sym, ap, ◌∙◌}
-use Rattle.answers.specs.Tells.{success, taken_tells}
-use Rattle.reading.proofs.Whole.{age_unknown, took_says}
-use Rattle.marking.proofs.Answering.{gives, refuses}
+use Rattle.answers.specs.Tells.{success, told_of}
+use Rattle.reading.proofs.Going.{end_passed, take_passed, ended, end_is, took}
+use Rattle.reading.proofs.Whole.{took_says}
 use Rattle.marking.proofs.marks_word.Goals as goal
 
-pub returns-then-not-is_age : goal.returns-then-not-is_age
-returns-then-not-is_age c = sym (age_unknown _ _ _ (sym (c.if-not-is_age.true) ∙ c.is_age.ensures))
-
-pub returns-in-Took : goal.returns-in-Took
-returns-in-Took c = let told = sym (ap taken_tells c.in-Took.is) ∙ c.take.ensures in
-    rw (gives _ c.args.bytes.now _ _ (sym (c.if-not-is_age.false) ∙ c.is_age.ensures) c.in-Took.n told, ← (took_says c.args.bytes.now c.in-Took.n told).0)
+pub returns : goal.returns
+returns c = rw (ended _ _ _ _ c.in_ok-end.ensures, took _ _ _ _ c.in_ok-taken.ensures, ← (took_says _ _ c.in_ok-taken.ensures).0, ← end_is _ _ c.in_ok-end.ensures)
     (ap success c.word_in.ensures)
 
-pub returns-in-Refused : goal.returns-in-Refused
-returns-in-Refused c = sym (refuses _ c.args.bytes.now _ _ (sym (c.if-not-is_age.false) ∙ c.is_age.ensures) c.in-Refused.why
-    (sym (ap taken_tells c.in-Refused.is) ∙ c.take.ensures))
+pub returns-in_err-end : goal.returns-in_err-end
+returns-in_err-end c = end_passed told_of _ _ _ c.in_err-end.ensures c.from_residual.ensures.1
+
+pub returns-in_err-taken : goal.returns-in_err-taken
+returns-in_err-taken c = take_passed told_of _ _ _ c.in_err-taken.ensures c.from_residual-in_err-taken.ensures.1 ∙ sym (ended _ _ _ _ c.in_ok-end.ensures)

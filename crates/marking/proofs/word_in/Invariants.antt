@@ -1,5 +1,5 @@
 -- The word has the marks behind field f, and takes that of field f next. Assumes nothing.
-use Prim.Native.Nat.{◌≤◌}
+use Prim.Native.Nat.{◌-◌}
 use mathlib.Core.Path.{◌≡◌}
 use lib.ListN.{drop}
 use Rattle.mark.specs.Word.{in_one_word}
@@ -7,7 +7,4 @@ use Rattle.marking.proofs.Marking.{marks_from}
 use Rattle.marking.proofs.word_in.Given as goal
 
 abbrev pub invariant-loop-f : goal.invariant-loop-f
-invariant-loop-f l = (l.f ≤ 14) × (l.word ≡ in_one_word (drop l.f (marks_from l.age l.t l.bytes)))
-
-abbrev pub decreases-loop-f : goal.decreases-loop-f
-decreases-loop-f l = l.f
+invariant-loop-f l = l.word ≡ in_one_word (drop (l.f - 1) (marks_from l.age l.t l.bytes))

@@ -1,20 +1,37 @@
 -- `number_in` reads digit by digit. Assumes nothing.
 use mathlib.Core.Path.{sym, ◌∙◌}
 use native.Mathlib.Omega.{arith}
-use Rattle.numbers.proofs.Numbers.{number_empty, number_zero, number_is, further_at, further_end}
+use borrow.Author.Tests.{eqb-true, eqb-false}
+use Rattle.numbers.proofs.Numbers.{number_empty, number_zero, number_is, further_at, further_end, further_lost}
 use Rattle.numbers.proofs.number_in.Goals as goal
+use Rattle.numbers.proofs.number_in.Goals.{then-is_empty-via-then-is_empty, then-is_empty-via-else-is_empty+then-leading_zero}
 
-pub returns-then-s-eq0 : goal.returns-then-s-eq0
-returns-then-s-eq0 c = number_empty _ c.if-s-eq0.true
+pub returns-then-is_empty : goal.returns-then-is_empty
+returns-then-is_empty c =
+    elim c.then-is_empty.branch [
+      | then-is_empty-via-then-is_empty w ↦ λ h. omega (arith, number_empty c.args.s.now (eqb-true _ _ (sym c.is_empty.ensures ∙ w.if-is_empty.true)))
+      | then-is_empty-via-else-is_empty+then-leading_zero w ↦ λ h. omega (arith, number_zero c.args.s.now (sym w.leading_zero.ensures ∙ w.if-leading_zero.true))
+    ]
 
-pub returns-then-leading_zero : goal.returns-then-leading_zero
-returns-then-leading_zero c = number_zero _ (sym c.leading_zero.ensures ∙ c.if-leading_zero.true)
+pub loop-b-init : goal.loop-b-init
+loop-b-init c = (
+  omega arith,
+  omega arith,
+  sym (number_is _ (eqb-false _ _ (sym c.is_empty.ensures ∙ c.if-is_empty.false)) (sym c.leading_zero.ensures ∙ c.if-leading_zero.false)),
+)
 
-pub loop-i-init : goal.loop-i-init
-loop-i-init c = (omega arith, omega arith, sym (number_is _ c.if-s-eq0.false (sym c.leading_zero.ensures ∙ c.if-leading_zero.false)))
+pub returns-in_err-n : goal.returns-in_err-n
+returns-in_err-n c = rw c.from_residual.ensures
+    (λ h. omega (arith, c.loop-b.invariant.2, further_lost c.args.s.now c.loop-b.b-index c.loop-b.n (omega arith) c.in_err-n.ensures))
 
-pub loop-i-preserved : goal.loop-i-preserved
-loop-i-preserved c = (omega arith, c.further-n.ensures.upper_bound, rw (c.further-n.ensures.value, ← further_at c.args.s.now c.loop-i.i c.loop-i.n (omega arith)) c.loop-i.invariant.2)
+pub loop-b-preserved : goal.loop-b-preserved
+loop-b-preserved c = (
+  omega arith,
+  omega (arith, c.in_ok-n.ensures),
+  rw (c.in_ok-n.ensures.1, ← further_at c.args.s.now c.loop-b.b-index c.loop-b.n (omega arith)) c.loop-b.invariant.2,
+)
 
 pub returns : goal.returns
-returns c = sym (further_end _ c.loop-i.i c.loop-i.n (omega arith)) ∙ c.loop-i.invariant.2
+returns c =
+    let e = sym (further_end c.args.s.now c.loop-b.b-index c.loop-b.n (omega arith)) ∙ c.loop-b.invariant.2 in
+    (omega (arith, e, c.loop-b.invariant.1), e)

@@ -15,4 +15,4 @@ loop-f-preserved c = let x = drop c.args.p c.args.bytes.now in
     word_alike x y c.loop-f.f (drop_bytes c.args.p c.args.bytes.now bytes) (drop_bytes c.args.q c.args.bytes.now bytes)
     (omega (arith, length-drop c.args.p c.args.bytes.now)) (omega (arith, length-drop c.args.q c.args.bytes.now))
     (sym c.word_at.ensures ∙ c.if-word_at.false ∙ c.word_at-in-loop-f.ensures) in
-    (omega arith, omega arith, λ k from below. alike_more x y _ (4 * c.loop-f.f) (4 * c.loop-f.f + 4) c.loop-f.invariant.2 more k from (omega arith))
+    λ k from below. alike_more x y _ (4 * c.loop-f.f) (4 * c.loop-f.f + 4) c.loop-f.invariant more k from (omega arith)

@@ -1,11 +1,8 @@
 -- The loop passes the words that agree. Assumes nothing.
-use Prim.Native.Nat.{◌*◌, ◌-◌, ◌≤◌}
+use Prim.Native.Nat.{◌*◌}
 use lib.ListN.{drop}
 use Rattle.order_at.specs.Apart.{AgreeFrom}
 use Rattle.order_at.proofs.first_apart.Given as goal
 
 abbrev pub invariant-loop-f : goal.invariant-loop-f
-invariant-loop-f l = (l.from ≤ l.f) × (l.f ≤ l.to) × AgreeFrom (drop l.p l.bytes) (drop l.q l.bytes) (4 * l.from) (4 * l.f)
-
-abbrev pub decreases-loop-f : goal.decreases-loop-f
-decreases-loop-f l = l.to - l.f
+invariant-loop-f l = AgreeFrom (drop l.p l.bytes) (drop l.q l.bytes) (4 * l.from) (4 * l.f)

@@ -1,19 +1,26 @@
--- `recognise` asks for a language, for a digit, and then by the first letter. Assumes nothing.
-use mathlib.Core.Path.{sym, ◌∙◌}
-use borrow.Author.Rules.{rules}
-use Rattle.parts.proofs.Beginning.{recognised_at, recognised_digit, recognised_empty, recognised_language}
+-- `recognise` asks for a language, and then by the first byte. Assumes nothing.
+use Prim.Native.Nat.{◌<◌}
+use mathlib.Core.Path.{ap, subst, ◌∙◌}
+use native.Mathlib.Omega.{arith}
+use Rattle.std.specs.Option.{SomeIff}
+use Rattle.parts.specs.declared.Found.{Found}
+use Rattle.parts.specs.Beginning.{class_of, found_by}
+use Rattle.parts.proofs.Beginning.{recognised_first, recognised_empty, recognised_language}
 use Rattle.parts.proofs.recognise.Goals as goal
 
-pub returns-then-s-eq0 : goal.returns-then-s-eq0
-returns-then-s-eq0 c = c.nothing.ensures ∙ recognised_empty _ c.if-s-eq0.true
+pub returns-in-Some : goal.returns-in-Some
+returns-in-Some c =
+    let e = recognised_language c.args.s.now c.in-Some.ensures.1 (λ z. omega (arith, c.in-Some.ensures)) in
+    rw c.in_slot.ensures (omega (arith, ap (λ (f : Found). f.value) e, c.in-Some.ensures), e)
 
-pub returns-then-language-ne0 : goal.returns-then-language-ne0
-returns-then-language-ne0 c = c.in_slot.ensures ∙ recognised_language _ c.language_value-language.ensures c.if-language-ne0.true
-
-pub returns-then-is_digit : goal.returns-then-is_digit
-returns-then-is_digit c = c.part_digit.ensures
-    ∙ recognised_digit _ c.if-s-eq0.false (sym c.language_value-language.ensures ∙ c.if-language-ne0.false) (sym c.is_digit.ensures ∙ c.if-is_digit.true)
+pub returns-in_err-first : goal.returns-in_err-first
+returns-in_err-first c =
+    let e = recognised_empty c.args.s.now (omega (arith, c.in_err-first.ensures.item.3)) in
+    rw c.from_residual.ensures (λ h. omega (arith, ap (λ (f : Found). f.value) e))
 
 pub returns : goal.returns
-returns c = c.by_letter.ensures
-    ∙ recognised_at _ c.if-s-eq0.false (sym c.language_value-language.ensures ∙ c.if-language-ne0.false) (sym c.is_digit.ensures ∙ c.if-is_digit.false)
+returns c =
+    let s = c.args.s.now in
+    let first = c.in_ok-first.ensures.item.4 (omega arith) 0 in
+    let e = recognised_first s (λ z. omega (arith, c.in_ok-first.ensures.item.3.0)) (omega (arith, c.in_default.ensures)) in
+    subst (λ (f : Found). SomeIff c.by_letter.result (0 < f.value) f) (ap (λ b. found_by (class_of b) s) first ∙ e) c.by_letter.ensures

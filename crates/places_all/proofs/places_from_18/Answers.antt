@@ -11,6 +11,6 @@ returns-then-r-eq0 c = says_none _ (λ t. rw c.if-r-eq0.true)
 
 pub returns : goal.returns
 unfolding places_of
-returns c = says_more (rw c.get_keyboard_navigation_input_flags-input.ensures at c.keys_hidden_place-a.ensures)
-    (says_more (rw c.get_keyboard_navigation_input_flags-input.ensures at c.keyboard_place-b.ensures)
-    (says_more (rw c.get_keyboard_navigation_input_flags-input.ensures at c.nav_hidden_place-c.ensures) (rw c.get_keyboard_navigation_input_flags-input.ensures at c.navigation_place.ensures)))
+returns c = says_more (rw c.get_keyboard_navigation_input_flags-input.ensures at (rw c.from.ensures at c.kind_place-a.ensures))
+    (says_more (rw c.get_keyboard_navigation_input_flags-input.ensures at (rw c.from-2.ensures at c.kind_place-b.ensures))
+    (says_more (rw c.get_keyboard_navigation_input_flags-input.ensures at (rw c.from-3.ensures at c.kind_place-c.ensures)) (rw c.get_keyboard_navigation_input_flags-input.ensures at (rw c.from-4.ensures at c.kind_place.ensures))))

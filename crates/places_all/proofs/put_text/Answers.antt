@@ -1,6 +1,5 @@
 -- The first places, and the others behind them. Assumes nothing.
 use lib.ListN.{take}
-use Rattle.buffer.proofs.Putting.{put_same}
 use Rattle.places.proofs.Laws.{says_more, says_both, said_more}
 use Rattle.places.specs.Places.{places_of, text_of}
 use Rattle.places_all.proofs.put_text.Goals as goal

@@ -7,4 +7,4 @@ pub returns-clause-says : goal.returns-clause-says
 unfolding places_of
 returns-clause-says c = says_more (rw c.get_mcc_mnc-codes.ensures at c.label_place-a.ensures)
     (says_more (rw c.get_mcc_mnc-codes.ensures at c.label_place-b.ensures)
-    (says_more c.locale_place-locale.ensures.says (rw c.get_grammatical_inflection-gender.ensures at c.grammatical_gender_place.ensures)))
+    (says_more c.locale_place-locale.ensures.says (rw c.get_grammatical_inflection.ensures at (rw c.from-gender.ensures at c.kind_place.ensures))))

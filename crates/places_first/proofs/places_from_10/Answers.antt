@@ -11,5 +11,5 @@ returns-then-r-eq0 c = says_none _ (λ t. rw c.if-r-eq0.true)
 
 pub returns : goal.returns
 unfolding places_of
-returns c = says_more (rw c.get_screen_layout_2_color_mode-second.ensures at c.screen_round_place-a.ensures)
-    (says_more (rw c.get_screen_layout_2_color_mode-second.ensures at c.wide_color_gamut_place-b.ensures) (rw c.get_screen_layout_2_color_mode-second.ensures at c.hdr_place.ensures))
+returns c = says_more (rw c.get_screen_layout_2_color_mode-second.ensures at (rw c.from.ensures at c.kind_place-a.ensures))
+    (says_more (rw c.get_screen_layout_2_color_mode-second.ensures at (rw c.from-2.ensures at c.kind_place-b.ensures)) (rw c.get_screen_layout_2_color_mode-second.ensures at (rw c.from-3.ensures at c.kind_place.ensures)))

@@ -11,4 +11,4 @@ returns-then-r-eq0 c = says_none _ (λ t. rw c.if-r-eq0.true)
 
 pub returns : goal.returns
 unfolding places_of
-returns c = says_more (rw c.get_screen_layout_ui_smallest_width-layout.ensures at c.screen_size_place-a.ensures) (rw c.get_screen_layout_ui_smallest_width-layout.ensures at c.screen_long_place.ensures)
+returns c = says_more (rw c.get_screen_layout_ui_smallest_width-layout.ensures at (rw c.from.ensures at c.kind_place-a.ensures)) (rw c.get_screen_layout_ui_smallest_width-layout.ensures at (rw c.from-2.ensures at c.kind_place.ensures))

@@ -13,8 +13,5 @@ pub returns-then-bytes-size : goal.returns-then-bytes-size
 returns-then-bytes-size c = ap refusal (c.lacking.ensures ∙ ap (lacking _) c.word-size.ensures)
     ∙ sym (whole_cut _ _ _ (omega arith) (omega (arith, c.word-size.ensures)))
 
-pub returns-then-size-lt16 : goal.returns-then-size-lt16
-returns-then-size-lt16 c = took_is _ 16 (omega (arith, c.word-size.ensures)) (omega (arith, c.word-size.ensures))
-
-pub returns-else-size-lt16 : goal.returns-else-size-lt16
-returns-else-size-lt16 c = took_is _ _ (omega (arith, c.word-size.ensures)) (omega (arith, c.word-size.ensures))
+pub returns : goal.returns
+returns c = took_is _ _ (omega (arith, c.word-size.ensures)) (omega (arith, c.word-size.ensures, c.max.ensures))

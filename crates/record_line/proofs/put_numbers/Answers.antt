@@ -1,5 +1,4 @@
 -- The three numbers and their spaces are put in a row. Assumes nothing.
-use borrow.Author.Rules.{rules}
 use Rattle.buffer.proofs.Putting.{put_put}
 use Rattle.record_line.proofs.put_numbers.Goals as goal
 

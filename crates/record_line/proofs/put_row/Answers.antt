@@ -1,5 +1,4 @@
 -- The parts of the line are put in a row. Assumes nothing.
-use borrow.Author.Rules.{rules}
 use Rattle.buffer.proofs.Putting.{put_put}
 use Rattle.record_line.specs.RecordLine.{laid_out}
 use Rattle.record_line.proofs.Answers.{in_row}

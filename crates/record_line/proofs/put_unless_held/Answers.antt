@@ -1,6 +1,5 @@
 -- What is put goes by whether the record is held back. Assumes nothing.
 use mathlib.Core.Path.{refl}
-use borrow.Author.Rules.{rules}
 use Rattle.buffer.proofs.Putting.{put_nil}
 use Rattle.record_line.proofs.put_unless_held.Goals as goal
 

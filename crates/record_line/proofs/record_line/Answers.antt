@@ -1,20 +1,17 @@
 -- 3, then the refusals of `take`, then the line is written. Assumes nothing.
-use mathlib.Core.Path.{◌≡◌, sym, ap, ◌∙◌}
-use borrow.Author.Rules.{rules}
-use borrow.Author.Tests.{not-true, not-false}
-use Rattle.answers.specs.Tells.{taken_tells}
-use Rattle.reading.proofs.Whole.{age_unknown}
-use Rattle.marking.proofs.Answering.{refuses}
+use mathlib.Core.Path.{sym, ◌∙◌}
+use Rattle.buffer.specs.Written.{outcome}
+use Rattle.reading.proofs.Going.{end_passed, take_passed, ended}
+use Rattle.reading.proofs.Whole.{end_known}
 use Rattle.record_line.proofs.Answers.{line-written}
 use Rattle.record_line.proofs.record_line.Goals as goal
 
-pub returns-then-not-is_age : goal.returns-then-not-is_age
-returns-then-not-is_age c = sym (age_unknown _ _ _ (sym (c.if-not-is_age.true) ∙ c.is_age.ensures))
+pub returns-in_err-end : goal.returns-in_err-end
+returns-in_err-end c = end_passed (λ r. outcome r c.args.out.now) _ _ _ c.in_err-end.ensures c.from_residual.ensures.1
 
-pub returns-in-Took : goal.returns-in-Took
-returns-in-Took c = line-written c.args.age.0 c.args.bytes.now (sym (c.if-not-is_age.false) ∙ c.is_age.ensures) c.args.index c.args.offset _ _ _
-    (sym (ap taken_tells c.in-Took.is) ∙ c.take.ensures) c.write_line.ensures
+pub returns-in_err-taken : goal.returns-in_err-taken
+returns-in_err-taken c = take_passed (λ r. outcome r c.args.out.now) _ _ _ c.in_err-taken.ensures c.from_residual-in_err-taken.ensures.1
+    ∙ sym (ended _ _ _ _ c.in_ok-end.ensures)
 
-pub returns-in-Refused : goal.returns-in-Refused
-returns-in-Refused c = sym (refuses _ c.args.bytes.now _ _ (sym (c.if-not-is_age.false) ∙ c.is_age.ensures) c.in-Refused.why
-    (sym (ap taken_tells c.in-Refused.is) ∙ c.take.ensures))
+pub returns : goal.returns
+returns c = line-written c.args.age.0 c.args.bytes.now (end_known _ _ c.in_ok-end.ensures).0 c.args.index c.args.offset _ _ _ c.in_ok-taken.ensures c.write_line.ensures

@@ -1,11 +1,10 @@
--- What `chunk_marks` answers, told and packed. Assumes nothing.
+-- What `chunk_marks` answers, packed. Assumes nothing.
 use Rattle.res_table_config.proofs.Small.{chunk_marks_small}
 use Rattle.res_table_config.proofs.Answers.{written_fits, written-told}
-use borrow.Author.Rules.{rules}
 use Rattle.res_table_config.proofs.res_table_type_marks.Goals as goal
 
 pub packed-requires : goal.packed-requires
-packed-requires c = written_fits c.chunk_marks-answer.result _ _ _ c.chunk_marks-answer.ensures c.told.ensures (chunk_marks_small _ _ _)
+packed-requires c = written_fits c.chunk_marks.result _ _ c.chunk_marks.ensures (chunk_marks_small _ _ _)
 
 pub returns : goal.returns
-returns c = written-told c.chunk_marks-answer.result _ _ _ c.chunk_marks-answer.ensures c.told.ensures c.packed.result c.packed.ensures
+returns c = written-told c.chunk_marks.result _ _ c.chunk_marks.ensures _ c.packed.ensures

@@ -15,16 +15,16 @@ loop-n-init c = begins _ _ _
 
 -- what stands is within the bytes
 pub overflow_add-here : goal.overflow_add-here
-overflow_add-here c = omega (arith, within (record_run _) _ _ (sym c.front_at.ensures ∙ c.in-Takes.is))
+overflow_add-here c = omega (arith, within (record_run _) _ _ (sym c.front_at.ensures ∙ c.in-Ok.is))
 
 pub overflow_add-records : goal.overflow_add-records
-overflow_add-records c = omega (arith, c.loop-n.invariant.room, within (record_run _) _ _ (sym c.front_at.ensures ∙ c.in-Takes.is))
+overflow_add-records c = omega (arith, c.loop-n.invariant.room, within (record_run _) _ _ (sym c.front_at.ensures ∙ c.in-Ok.is))
 
 pub loop-n-smaller : goal.loop-n-smaller
-loop-n-smaller c = omega (arith, within (record_run _) _ _ (sym c.front_at.ensures ∙ c.in-Takes.is))
+loop-n-smaller c = omega (arith, within (record_run _) _ _ (sym c.front_at.ensures ∙ c.in-Ok.is))
 
 pub loop-n-preserved : goal.loop-n-preserved
-loop-n-preserved c = turn (record_run _) c.loop-n.invariant (sym c.front_at.ensures ∙ c.in-Takes.is)
+loop-n-preserved c = turn (record_run _) c.loop-n.invariant (sym c.front_at.ensures ∙ c.in-Ok.is)
 
-pub returns-in-Stops : goal.returns-in-Stops
-returns-in-Stops c = arrives _ _ _ _ _ _ c.loop-n.invariant (sym c.front_at.ensures ∙ c.in-Stops.is)
+pub returns-in-Err : goal.returns-in-Err
+returns-in-Err c = arrives _ _ _ _ _ _ c.loop-n.invariant (sym c.front_at.ensures ∙ c.in-Err.is)

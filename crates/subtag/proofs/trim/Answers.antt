@@ -5,14 +5,11 @@ use native.Mathlib.Omega.{arith}
 use Prim.Native.Nat.{◌-◌}
 use Rattle.subtag.proofs.trim.Goals as goal
 
--- src/lib.rt:139:13
 pub returns-then-s-n-ne0 : goal.returns-then-s-n-ne0
-returns-then-s-n-ne0 c = (omega arith, sym (c.loop-n.invariant.1 ∙ stays _ c.loop-n.n (c.loop-n.n - 1) (omega arith) (omega arith) c.if-s-n-ne0.true))
+returns-then-s-n-ne0 c = (omega arith, sym (c.loop-n.invariant ∙ stays _ c.loop-n.n (c.loop-n.n - 1) (omega arith) (omega arith) c.if-s-n-ne0.true))
 
--- src/lib.rt:137:5
 pub loop-n-preserved : goal.loop-n-preserved
-loop-n-preserved c = (omega arith, c.loop-n.invariant.1 ∙ one_less _ c.loop-n.n (c.loop-n.n - 1) (omega arith) (omega arith) c.if-s-n-ne0.false)
+loop-n-preserved c = c.loop-n.invariant ∙ one_less _ c.loop-n.n (c.loop-n.n - 1) (omega arith) (omega arith) c.if-s-n-ne0.false
 
--- src/lib.rt:133:1
 pub returns : goal.returns
-returns c = (omega arith, sym (c.loop-n.invariant.1 ∙ ended _ c.loop-n.n (omega arith)))
+returns c = (omega arith, sym (c.loop-n.invariant ∙ ended _ c.loop-n.n (omega arith)))

@@ -1,12 +1,8 @@
 -- `trim` stops at the last byte that is no NUL. Assumes nothing.
 use Rattle.subtag.specs.Subtag.{drop_nuls}
-use lib.ListN.{length, take}
+use lib.ListN.{take}
 use mathlib.Core.Path.{◌≡◌}
-use Prim.Native.Nat.{◌≤◌}
 use Rattle.subtag.proofs.trim.Given as goal
 
 abbrev pub invariant-loop-n : goal.invariant-loop-n
-invariant-loop-n l = (l.n ≤ length l.s) × (drop_nuls l.s ≡ drop_nuls (take l.n l.s))
-
-abbrev pub decreases-loop-n : goal.decreases-loop-n
-decreases-loop-n l = l.n
+invariant-loop-n l = drop_nuls l.s ≡ drop_nuls (take l.n l.s)

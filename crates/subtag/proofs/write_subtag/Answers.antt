@@ -7,4 +7,4 @@ pub returns-then-out-subtag_reach : goal.returns-then-out-subtag_reach
 returns-then-out-subtag_reach c = copy_short _ _ _ (reach_past _ _ (rw c.subtag_reach.ensures at c.if-out-subtag_reach.true))
 
 pub returns : goal.returns
-returns c = copy_written (reach_within _ _ (rw c.subtag_reach.ensures at c.if-out-subtag_reach.false)) c.put_subtag-copied.ensures
+returns c = rw c.into.ensures (copy_written (reach_within _ _ (rw c.subtag_reach.ensures at c.if-out-subtag_reach.false)) c.put_subtag.ensures)

@@ -1,7 +1,6 @@
 -- The record line's outcome, what it tells packed. Assumes nothing.
 use Rattle.test_probe.proofs.Answers.{comes}
-use borrow.Author.Rules.{rules}
 use Rattle.test_probe.proofs.probe_record_line.Goals as goal
 
 pub returns : goal.returns
-returns c = comes c.record_line-answer.result _ _ _ _ c.record_line-answer.ensures c.told.ensures c.packed.ensures
+returns c = comes c.record_line.result _ _ _ _ c.record_line.ensures c.from.ensures c.packed.ensures

@@ -1,11 +1,13 @@
 -- What isn't whole is refused, and else the record is written with the other size. Assumes nothing.
-use Rattle.test_probe.proofs.Answers.{sized-refused, sized-whole}
-use borrow.Author.Rules.{rules}
+use Rattle.buffer.specs.Written.{outcome}
+use Rattle.reading.proofs.Going.{take_passed}
+use Rattle.text.proofs.Answers.{plain-refused}
+use Rattle.test_probe.proofs.Answers.{sized-whole}
 use Rattle.test_probe.proofs.write_sized.Goals as goal
 
-pub returns-in-Refused : goal.returns-in-Refused
-returns-in-Refused c = sized-refused _ _ _ _ c.take.ensures _ c.in-Refused.is
+pub returns : goal.returns
+returns c = sized-whole c.args.bytes.now _ _ c.in_ok-parsed.parsed _ _ c.in_ok-parsed.ensures c.sized.ensures c.write.ensures
 
-pub returns-in-Took : goal.returns-in-Took
-returns-in-Took c = sized-whole _ _ _ _ c.take.ensures _ c.parse-parsed.result c.sized.result _ c.in-Took.is
-    c.parse-parsed.ensures c.sized.ensures c.write.ensures
+pub returns-in_err-parsed : goal.returns-in_err-parsed
+returns-in_err-parsed c = take_passed (λ r. outcome r c.args.out.now) _ _ _ (plain-refused c.args.bytes.now c.args.out.now _ c.in_err-parsed.ensures)
+    c.from_residual.ensures.1

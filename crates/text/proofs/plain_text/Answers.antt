@@ -1,22 +1,15 @@
 -- Parsing refuses, or its record is put into words. Assumes nothing.
-use Prim.Native.Nat.{ℕ}
-use mathlib.Core.Path.{◌≡◌, ap, ◌∙◌}
-use mathlib.Core.List.{List}
-use Rattle.answers.specs.Tells.{taken_tells}
-use Rattle.reading.specs.declared.Parsed.{Parsed}
-use Rattle.reading.specs.Reading.{ParseOutcome, parsed_outcome, parse_of, take_of}
-use Rattle.reading.proofs.Exactly.{parse_tells}
-use Rattle.text.proofs.Answers.{refused-counted, plain-refused, plain-whole}
-use borrow.Author.Rules.{rules}
+use mathlib.Core.Path.{sym, ap, ◌∙◌}
+use Rattle.answers.proofs.Passed.{passed_on}
+use Rattle.reading.proofs.Whole.{refused_whole}
+use Rattle.buffer.specs.Counted.{counted_outcome}
+use Rattle.text.proofs.Answers.{plain-refused, plain-whole, refused-counted}
 use Rattle.text.proofs.plain_text.Goals as goal
 
--- the answer of parsing is that of taking
-taken : (s : List ℕ) (p : Parsed) → parsed_outcome p ≡ parse_of s → taken_tells p.answer ≡ take_of s
-taken s p e = ap (λ (o : ParseOutcome). o.tells) e ∙ parse_tells s
+pub returns : goal.returns
+returns c = c.as_string.ensures ∙ plain-whole _ _ c.in_ok-parsed.parsed c.in_ok-parsed.ensures
 
-pub returns-in-Refused : goal.returns-in-Refused
-returns-in-Refused c = refused-counted _ (plain-refused _ _ _ (taken _ c.parse-parsed.result c.parse-parsed.ensures) _ c.in-Refused.is) c.refused.ensures
-
-pub returns-in-Took : goal.returns-in-Took
-returns-in-Took c = c.as_string.ensures
-    ∙ plain-whole _ _ _ (taken _ c.parse-parsed.result c.parse-parsed.ensures) _ c.parse-parsed.result c.in-Took.is c.parse-parsed.ensures
+pub returns-in_err-parsed : goal.returns-in_err-parsed
+returns-in_err-parsed c = let why = c.in_err-parsed.field-0.0 in
+    ap (λ r. counted_outcome r c.args.out.now) (passed_on c.from_residual.ensures.1)
+    ∙ refused-counted why _ (sym (refused_whole c.args.bytes.now _ _ why (plain-refused c.args.bytes.now c.args.out.now why c.in_err-parsed.ensures)))

@@ -1,17 +1,13 @@
--- 3, 1, 2 or 8, and 4 by whether the record is held back, then the count. Assumes nothing.
+-- 3, 1, 2 or 8, and 4 by whether the record is shown, then the count. Assumes nothing.
 use mathlib.Core.Path.{ap, ◌∙◌}
-use Rattle.answers.specs.Tells.{success}
-use Rattle.text.proofs.Answers.{refused-told, held-told, unheld-counted}
-use borrow.Author.Rules.{rules}
+use Rattle.std.specs.Prelude.{Ok, Err}
+use Rattle.answers.specs.Tells.{success, told_of}
+use Rattle.answers.proofs.Passed.{passed_on}
+use Rattle.text.proofs.Answers.{count-shown}
 use Rattle.text.proofs.replacements.Goals as goal
 
-pub returns-in-Refused : goal.returns-in-Refused
-returns-in-Refused c = refused-told _ _ _ _ c.held_back.ensures c.in-Refused.is
+pub returns : goal.returns
+returns c = ap success c.replacements_in.ensures ∙ count-shown _ _ (Ok c.in_ok-shown.field-0) c.in_ok-shown.ensures
 
-pub returns-in-Yes : goal.returns-in-Yes
-returns-in-Yes c = held-told _ _ _ c.held_back.ensures c.in-Yes.is
-
-pub returns-in-No : goal.returns-in-No
-returns-in-No c = ap success c.replacements_in.ensures
-    ∙ unheld-counted _ _ _ c.parse_aged-shown.result c.held_back.ensures c.in-No.is
-    c.parse_aged-shown.ensures
+pub returns-in_err-shown : goal.returns-in_err-shown
+returns-in_err-shown c = ap told_of (passed_on c.from_residual.ensures.1) ∙ count-shown _ _ (Err c.in_err-shown.field-0.0) c.in_err-shown.ensures

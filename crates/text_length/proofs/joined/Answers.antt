@@ -1,7 +1,6 @@
 -- The three cases of the sum. Assumes nothing.
 use native.Mathlib.Omega.{arith}
 use borrow.Author.Tests.{eq-eqb, ne_eqb}
-use borrow.Author.Rules.{rules}
 use Rattle.text_length.proofs.joined.Goals as goal
 
 pub returns-then-front-ne0-clause-value : goal.returns-then-front-ne0-clause-value

@@ -5,7 +5,6 @@ use Rattle.locale.specs.Locale.{locale_said, locale_words}
 use Rattle.places.specs.Places.{places_of}
 use Rattle.text_length.proofs.Total.{alone_adds}
 use Rattle.text_length.proofs.Worded.{text_joined}
-use borrow.Author.Rules.{rules}
 use Rattle.text_length.proofs.text_length.Goals as goal
 
 pub returns-then-locale_alone : goal.returns-then-locale_alone

@@ -4,6 +4,7 @@ use Prim.Native.Nat.{ℕ, ◌<◌}
 use native.Mathlib.Omega.{arith}
 use Rattle.laws.specs.Below.{each_below}
 use Rattle.laws.proofs.Below.{each_more, each_stop}
+use Rattle.reading.proofs.Limits.{start_end}
 use Rattle.writing.specs.Writing.{keeps, tidy}
 use Rattle.writing.proofs.Answers.{whole-tidy}
 use Rattle.writing.proofs.Held.{held_is, zero_is, neither_is}
@@ -17,21 +18,23 @@ pub returns-then-late_bytes : goal.returns-then-late_bytes
 unfolding tidy
 returns-then-late_bytes c = let h : c.loop-f.f < 15 = omega arith in
     sym (each_stop 15 (keeps c.args.r) c.loop-f.f h
-    (neither_is c.args.r _ c.loop-f.f c.loop-f.invariant.1 h _ c.field_of-x.ensures _ c.late_bytes.ensures
+    (neither_is c.args.r _ c.loop-f.f c.loop-f.invariant.0 h _ c.field_of-x.ensures _ c.late_bytes.ensures
     (omega (arith, c.if-t-end.true)) c.if-late_bytes.true))
 
 pub loop-f-preserved : goal.loop-f-preserved
 loop-f-preserved c = let h : c.loop-f.f < 15 = omega arith in (
-  omega arith,
-  c.loop-f.invariant.1,
-  each_more (keeps c.args.r) c.loop-f.f c.loop-f.invariant.2
+  c.loop-f.invariant.0,
+  each_more (keeps c.args.r) c.loop-f.f c.loop-f.invariant.1
       (elim c.if-t-end.branch [
-        | then-t-end+else-late_bytes w ↦ zero_is c.args.r _ c.loop-f.f c.loop-f.invariant.1 h _ w.field_of-x.ensures _ w.late_bytes.ensures w.if-late_bytes.false
-        | else-t-end w ↦ held_is c.args.r _ c.loop-f.f c.loop-f.invariant.1 h (omega (arith, w.if-t-end.false))
+        | then-t-end+else-late_bytes w ↦ zero_is c.args.r _ c.loop-f.f c.loop-f.invariant.0 h _ w.field_of-x.ensures _ w.late_bytes.ensures w.if-late_bytes.false
+        | else-t-end w ↦ held_is c.args.r _ c.loop-f.f c.loop-f.invariant.0 h (omega (arith, w.if-t-end.false))
       ]),
 )
 
 pub returns : goal.returns
 unfolding tidy
 returns c = let e : c.loop-f.f ≡ 15 = omega arith in
-    sym (ap (λ (n : ℕ). each_below n (keeps c.args.r)) (sym e) ∙ c.loop-f.invariant.2)
+    sym (ap (λ (n : ℕ). each_below n (keeps c.args.r)) (sym e) ∙ c.loop-f.invariant.1)
+
+pub overflow_sub-end : goal.overflow_sub-end
+overflow_sub-end c = omega (arith, start_end c.loop-f.f (omega arith))

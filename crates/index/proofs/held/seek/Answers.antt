@@ -1,10 +1,9 @@
 -- The rank lies between the two ends, until one that is Equal is met or the ends meet. Assumes nothing.
-use Prim.Native.Nat.{ℕ, ◌+◌, ◌-◌, ◌/◌, ◌≤◌, ◌<◌}
+use Prim.Native.Nat.{ℕ, ◌/◌, ◌≤◌, ◌<◌}
 use mathlib.Core.Path.{◌≡◌, sym, ap, ◌∙◌}
 use native.Mathlib.Omega.{arith}
-use borrow.Author.Rules.{rules}
 use Rattle.order_at.specs.OrderAt.{order_at}
-use Rattle.rising.proofs.Bisect.{Between, between_all, between_up, between_down, between_met, between_equal}
+use Rattle.rising.proofs.Bisect.{between_all, between_up, between_down, between_met, between_equal}
 use Rattle.rising.proofs.Ranked.{toward_place}
 use Rattle.index.specs.Steps.{places_in}
 use Rattle.index.proofs.Words.{ranks, place_at, places_long}

@@ -1,16 +1,9 @@
 -- The rank lies between the two ends, until one that is Equal is met or the ends meet. Assumes nothing.
-use Prim.Native.Nat.{ℕ, ◌+◌, ◌-◌, ◌/◌, ◌≤◌, ◌<◌}
-use mathlib.Core.Path.{◌≡◌, sym, ap, ◌∙◌}
-use native.Mathlib.Omega.{arith}
-use borrow.Author.Rules.{rules}
+use Prim.Native.Nat.{◌-◌, ◌≤◌}
 use Rattle.order_at.specs.OrderAt.{order_at}
-use Rattle.rising.proofs.Bisect.{Between, between_all, between_up, between_down, between_met, between_equal}
-use Rattle.rising.proofs.Ranked.{toward_place}
+use Rattle.rising.proofs.Bisect.{Between}
 use Rattle.index.specs.Steps.{places_in}
-use Rattle.index.proofs.Words.{ranks, place_at, places_long}
-use lib.ListN.{get_or, take}
-use mathlib.Core.List.{List}
-use Rattle.order.specs.declared.Ordering.{Ordering}
+use lib.ListN.{take}
 use Rattle.index.proofs.held.seek.Given as goal
 
 abbrev pub invariant-loop-lo : goal.invariant-loop-lo

@@ -2,7 +2,6 @@
 use Prim.Native.Nat.{◌+◌, ◌*◌}
 use mathlib.Core.Path.{◌≡◌}
 use native.Mathlib.Omega.{arith}
-use borrow.Author.Rules.{rules}
 use Rattle.record.specs.Table.{part, le}
 use Rattle.index.proofs.Amounts.{halves_say, more_put}
 use Rattle.index.proofs.recount.count_more.Goals as goal

@@ -1,5 +1,4 @@
 -- `record_of` makes each word of its values. Assumes nothing.
-use borrow.Author.Rules.{rules}
 use Rattle.names.proofs.Words.{made_of}
 use Rattle.names.proofs.made.record_of.Goals as goal
 

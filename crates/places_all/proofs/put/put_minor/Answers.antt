@@ -1,7 +1,6 @@
 -- A minor version that is not 0 is put. Assumes nothing.
 use borrow.Author.Tests.{eq-eqb, ne_eqb}
 use Rattle.buffer.proofs.Putting.{put_nil}
-use borrow.Author.Rules.{rules}
 use Rattle.places_all.proofs.put.put_minor.Goals as goal
 
 pub returns-then-minor-eq0 : goal.returns-then-minor-eq0

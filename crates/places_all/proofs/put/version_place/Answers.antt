@@ -1,7 +1,6 @@
 -- The version is put where the word is not 0. Assumes nothing.
 use Rattle.places.proofs.Laws.{place_said, place_silent, some_said, none_said}
 use Rattle.buffer.proofs.Putting.{put_put}
-use borrow.Author.Rules.{rules}
 use Rattle.places_all.proofs.put.version_place.Goals as goal
 
 pub returns-then-r-eq0 : goal.returns-then-r-eq0

@@ -4,11 +4,11 @@ use Rattle.buffer.proofs.Putting.{put_put}
 use Rattle.test_frames.proofs.Lines.{hex_all, hex_none, hex_turn}
 use Rattle.test_frames.proofs.hex.line.Goals as goal
 
-pub loop-i-init : goal.loop-i-init
-loop-i-init c = (omega arith, hex_none)
+pub loop-byte-init : goal.loop-byte-init
+loop-byte-init c = hex_none
 
-pub loop-i-preserved : goal.loop-i-preserved
-loop-i-preserved c = (omega arith, rw add-one (hex_turn _ c.loop-i.i (omega arith) c.loop-i.invariant.1 c.digits-end.ensures))
+pub loop-byte-preserved : goal.loop-byte-preserved
+loop-byte-preserved c = rw add-one (hex_turn _ c.loop-byte.byte-index (omega arith) c.loop-byte.invariant c.digits-end.ensures)
 
 pub returns : goal.returns
-returns c = put_put (hex_all _ c.loop-i.i (omega arith) c.loop-i.invariant.1) c.put_byte.ensures
+returns c = put_put (hex_all _ c.loop-byte.byte-index (omega arith) c.loop-byte.invariant) c.put_byte.ensures

@@ -1,7 +1,6 @@
 -- A number of 16 bits is below 100,000. Assumes nothing.
 use native.Mathlib.Omega.{arith}
 use Rattle.buffer.proofs.Digits.{decimal_long}
-use borrow.Author.Rules.{rules}
 use Rattle.text_length.proofs.cost.digits.Goals as goal
 
 pub returns-clause-value : goal.returns-clause-value

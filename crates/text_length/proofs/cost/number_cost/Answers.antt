@@ -1,7 +1,6 @@
 -- A number that is 0 adds nothing. Assumes nothing.
 use native.Mathlib.Omega.{arith}
 use Rattle.places.proofs.Laws.{some_said, none_said}
-use borrow.Author.Rules.{rules}
 use Rattle.text_length.proofs.cost.number_cost.Goals as goal
 
 pub returns-then-n-eq0-clause-value : goal.returns-then-n-eq0-clause-value

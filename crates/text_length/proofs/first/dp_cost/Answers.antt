@@ -5,7 +5,6 @@ use Rattle.places.specs.Say.{say, say_all}
 use Rattle.places.specs.Places.{places_of}
 use Rattle.buffer.specs.Ascii.{ascii}
 use Rattle.text_length.proofs.Total.{adds_both, dp_adds}
-use borrow.Author.Rules.{rules}
 use Rattle.text_length.proofs.first.dp_cost.Goals as goal
 
 pub returns-then-r-eq0-clause-result_value : goal.returns-then-r-eq0-clause-result_value

@@ -2,7 +2,6 @@
 use lib.ListN.{take, drop}
 use Rattle.places.specs.Places.{places_of}
 use Rattle.text_length.proofs.Total.{adds_both, adds_between}
-use borrow.Author.Rules.{rules}
 use Rattle.text_length.proofs.first.first_cost.Goals as goal
 
 pub returns-clause-result_value : goal.returns-clause-result_value

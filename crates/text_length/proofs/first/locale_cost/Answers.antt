@@ -4,7 +4,6 @@ use Rattle.places.specs.Places.{places_of}
 use Rattle.locale.specs.Locale.{locale_said, locale_words}
 use Rattle.places.proofs.Laws.{some_said, none_said}
 use Rattle.text_length.proofs.Total.{said_adds, silent_adds}
-use borrow.Author.Rules.{rules}
 use Rattle.text_length.proofs.first.locale_cost.Goals as goal
 
 pub returns-then-r-eq0-clause-result_value : goal.returns-then-r-eq0-clause-result_value

@@ -3,7 +3,6 @@ use native.Mathlib.Omega.{arith}
 use Rattle.places.specs.Say.{say, say_all}
 use Rattle.places.specs.Places.{places_of}
 use Rattle.text_length.proofs.Total.{adds_both}
-use borrow.Author.Rules.{rules}
 use Rattle.text_length.proofs.first.second_cost.Goals as goal
 
 pub returns-then-r-eq0-clause-result_value : goal.returns-then-r-eq0-clause-result_value

@@ -1,7 +1,6 @@
 -- The parts one behind the other. Assumes nothing.
 use Rattle.places.specs.Places.{places_of}
 use Rattle.text_length.proofs.Total.{adds_both}
-use borrow.Author.Rules.{rules}
 use Rattle.text_length.proofs.last.last_cost.Goals as goal
 
 pub returns-clause-result_value : goal.returns-clause-result_value

@@ -2,7 +2,6 @@
 use native.Mathlib.Omega.{arith}
 use Rattle.places.specs.Say.{say, say_all}
 use Rattle.places.specs.Places.{places_of}
-use borrow.Author.Rules.{rules}
 use Rattle.text_length.proofs.last.night_cost.Goals as goal
 
 pub returns-then-r-eq0-clause-result_value : goal.returns-then-r-eq0-clause-result_value

@@ -10,7 +10,6 @@ use Rattle.places.specs.Say.{say, say_all}
 use Rattle.places.specs.Places.{minor_words, version_place, places_of}
 use Rattle.places.proofs.Laws.{some_said}
 use Rattle.text_length.proofs.Total.{said_adds, minor_long}
-use borrow.Author.Rules.{rules}
 use Rattle.text_length.proofs.last.version_cost.Goals as goal
 
 pub returns-then-r-eq0-clause-result_value : goal.returns-then-r-eq0-clause-result_value

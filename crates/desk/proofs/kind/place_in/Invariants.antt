@@ -1,9 +1,0 @@
--- The words go by one after the other, and each turn begins behind the word before.
-use Rattle.std.proofs.Common.{length, ◌-◌, ◌+◌, ◌≤◌}
-use Rattle.desk.proofs.kind.place_in.Given as goal
-
-abbrev pub invariant-loop-at : goal.invariant-loop-at
-invariant-loop-at l = (l.place ≤ l.at) × (l.at ≤ length l.list + 1)
-
-abbrev pub decreases-loop-at : goal.decreases-loop-at
-decreases-loop-at l = length l.list - l.at

@@ -1,6 +1,0 @@
--- Each case puts its own words. Assumes nothing.
-use Rattle.buffer.proofs.Putting.{put_nil}
-use Rattle.words_input.proofs.put_keyboard.Goals as goal
-
-pub returns-in-Any : goal.returns-in-Any
-returns-in-Any c = rw c.in-Any.is put_nil
