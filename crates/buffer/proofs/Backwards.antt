@@ -38,23 +38,31 @@ digit_last o at n j h e p =
 pub digit_one : {o : List ℕ} {at n : ℕ} {new : List ℕ} {r : ℕ} → n < 10 → Put o at ((48 + n) ∷ []) new r → new ≡ put_at o at (decimal n)
 digit_one {o} {at} {n} h p = rw (decimal_one n h) p.holds
 
--- of a number's digits that are put backwards, those up to offset i are left, which make the buffer whole: all of n's, or none
+-- of a number's digits that are put backwards, those up to offset i are left, which make the buffer whole
 abbrev pub DigitsLeft : List ℕ → ℕ → ℕ → ℕ → List ℕ → Type 0
-DigitsLeft o at n i whole = (at < i → (i ≡ at + length (decimal n)) × (put_at o at (decimal n) ≡ whole)) × (i ≤ at → o ≡ whole)
+DigitsLeft o at n i whole = (i ≡ at + length (decimal n)) × (put_at o at (decimal n) ≡ whole)
 
--- one more of them is put
-pub digit_put : {o : List ℕ} {at : ℕ} (n : ℕ) {j i : ℕ} {whole : List ℕ} {new : List ℕ} {r : ℕ}
-    → at ≤ j → j + 1 ≡ i → DigitsLeft o at n i whole → Put o j ((48 + n % 10) ∷ []) new r → DigitsLeft new at (n / 10) j whole
-digit_put {o} {at} n {j} {i} h e d p =
-    let w = d.0 (omega arith) in
+-- where more than one is left, there is one behind the first
+digits_more : (at n i : ℕ) → i ≡ at + length (decimal n) → at + 1 < i → 10 ≤ n
+digits_more at n i e h =
     elim (dec_le 10 n) [
-      | yes m ↦
-          let l = digit_last o at n j m (e ∙ w.0) p in
-          (λ g. (l.0, l.1 ∙ w.1), λ g. absurd (omega (arith, l.0, decimal_some (n / 10))))
-      | no m ↦
-          let a : j ≡ at = omega (arith, w.0, decimal_one_length n (omega arith)) in
-          let b : n % 10 ≡ n = omega arith in
-          (λ g. absurd (omega arith), λ g. digit_one (omega arith) (rw (a, b) at p) ∙ w.1)
+      | yes m ↦ m
+      | no m ↦ absurd (omega (arith, e, decimal_one_length n (omega arith)))
+    ]
+
+-- one more behind the first is put
+pub digit_put : {o : List ℕ} {at : ℕ} (n : ℕ) {j i : ℕ} {whole : List ℕ} {new : List ℕ} {r : ℕ}
+    → suc at ≤ j → j + 1 ≡ i → DigitsLeft o at n i whole → Put o j ((48 + n % 10) ∷ []) new r → DigitsLeft new at (n / 10) j whole
+digit_put {o} {at} n {j} {i} h e d p =
+    let l = digit_last o at n j (digits_more at n i d.0 (omega arith)) (e ∙ d.0) p in
+    (l.0, l.1 ∙ d.1)
+
+-- where no more than one is left, it is the first
+pub digits_first : {at : ℕ} (n : ℕ) {i : ℕ} → i ≤ suc at → i ≡ at + length (decimal n) → n < 10
+digits_first {at} n h e =
+    elim (dec_le 10 n) [
+      | yes m ↦ absurd (omega (arith, e, decimal_more_length n m, decimal_some (n / 10)))
+      | no m ↦ omega arith
     ]
 
 -- a writer that has put all bytes stops behind them, or at the buffer's end

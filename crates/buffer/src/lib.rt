@@ -27,12 +27,11 @@ pub fn put_byte(b: u8, at: usize, out: &mut [u8]) -> usize
 pub fn put(bytes: &[u8], at: usize, out: &mut [u8]) -> usize
     ensures { Put out.old at bytes.now out.new result }
 {
-    if out.len() <= at {
-        return at;
+    let mut o = at;
+    for &b in bytes {
+        o = put_byte(b, o, out);
     }
-    let n = bytes.len().min(out.len() - at);
-    out[at..at + n].copy_from_slice(&bytes[..n]);
-    at + n
+    o
 }
 
 // How many digits n has in decimal.
@@ -51,10 +50,11 @@ pub fn put_decimal(n: u64, at: usize, out: &mut [u8]) -> usize
     }
     let end = at + decimal_length(n);
     let mut left = n;
-    for o in (at..end).rev() {
+    for o in (at + 1..end).rev() {
         put_byte(48 + (left % 10) as u8, o, out);
         left /= 10;
     }
+    put_byte(48 + left as u8, at, out);
     end.min(out.len())
 }
 

@@ -8,7 +8,7 @@ use answers::Refusal;
 use chunk::{parse_chunk, take_chunk};
 use reading::lesser;
 use record::Age;
-use runs::{RunEnd, Step, Stepped, Stop, stays};
+use runs::{RunEnd, Step, Stepped, Stop, front_of, stays};
 
 // What stands at an offset of bytes: a whole chunk, or the stop of a run.
 pub fn chunk_at(bytes: &[u8], offset: usize) -> Result<usize, Stop>
@@ -18,7 +18,7 @@ pub fn chunk_at(bytes: &[u8], offset: usize) -> Result<usize, Stop>
         return Err(Stop::Ended);
     }
     let from = lesser(offset, bytes.len());
-    Ok(take_chunk(&bytes[from..])?)
+    front_of(take_chunk(&bytes[from..]))
 }
 
 // Reads the record of the chunk at an offset for a reader of an age. The next chunk stands as far behind as the chunk's size says.

@@ -8,7 +8,7 @@ use native.Mathlib.Decide.{dec_lt}
 use native.Mathlib.Numerals.{add-one}
 use lib.Dec.{eqb, ltb}
 use lib.ListN.{length, get_or, take, drop, drop_of_length-le, take-append-drop}
-use lib.Seq.{drop-cons, take-append_seam}
+use lib.Seq.{drop-cons, take-append_seam, take_all}
 use borrow.Author.Tests.{eq-eqb, ne_eqb, eqb-true, lt-ltb, le-ltb}
 use Rattle.std.specs.Bool.{Decides}
 use Rattle.std.specs.List.{position, position_or_len}
@@ -65,12 +65,15 @@ pub same_end : (s t : List ℕ) (i : ℕ) → length s ≤ i → length t ≤ i 
 unfolding same
 same_end s t i h k = rw (drop_of_length-le s h, drop_of_length-le t k)
 
--- the front of s as long as w decides
-pub begins_is : (w s : List ℕ) → bytes_eq w (take (length w) s) ≡ begins_with w s
+-- what is shorter than w doesn't begin with w
+pub begins_short : (w s : List ℕ) → length s < length w → false ≡ begins_with w s
 unfolding begins_with
-begins_is w s =
-    let d = bytes_eq-Decides w (take (length w) s) in
-    same_from_decides (bytes_eq w (take (length w) s)) (begins_with w s) (λ e. sym (d.0 e), λ e. d.1 (sym e)) (same_Decides (take (length w) s) w)
+begins_short w s h = same_length (take (length w) s) w (λ e. omega (arith, rw (take_all (length w) s (omega arith)) at e))
+
+-- the front of s as long as w decides
+pub begins_is : (w s : List ℕ) → same (take (length w) s) w ≡ begins_with w s
+unfolding begins_with
+begins_is w s = refl
 
 -- the same, with the bytes first
 pub strips_is : (w s : List ℕ) → bytes_eq (take (length w) s) w ≡ begins_with w s

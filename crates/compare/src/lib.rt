@@ -23,7 +23,11 @@ pub fn same(s: &[u8], w: &[u8]) -> bool
 pub fn begins_with(s: &[u8], w: &[u8]) -> bool
     ensures { result ≡ begins_with w.now s.now }
 {
-    s.starts_with(w)
+    let n = w.len();
+    if s.len() < n {
+        return false;
+    }
+    same(&s[..n], w)
 }
 
 // The offset of the first b that stands at an offset or behind it; the end where there is none, and the offset where it is past the end.

@@ -1,8 +1,8 @@
 -- The forms with numbers, by the ways that the code goes. Assumes nothing.
 use Prim.Native.Nat.{ℕ, ◌+◌, ◌*◌, ◌-◌, ◌≤◌, ◌<◌}
 use mathlib.Core.Path.{◌≡◌, refl, sym, ◌∙◌}
-use mathlib.Core.List.{List, []}
-use mathlib.Core.Bool.{Bool, true, false, cond, ◌&&◌, not}
+use mathlib.Core.List.{List, [], ◌∷◌}
+use mathlib.Core.Bool.{Bool, true, false, cond, ◌&&◌, not, true≢false}
 use native.Mathlib.Omega.{arith}
 use native.Mathlib.Decide.{dec_le}
 use lib.Dec.{eqb, leb}
@@ -16,7 +16,7 @@ use Rattle.laws.proofs.Choice.{chosen_by}
 use Rattle.laws.proofs.Tests.{and_both}
 use Rattle.buffer.specs.Ascii.{ascii}
 use Rattle.kinds.specs.Screen.{density_of}
-use Rattle.compare.specs.Compare.{begins_with, up_to}
+use Rattle.compare.specs.Compare.{same, begins_with, up_to}
 use Rattle.compare.proofs.Compare.{same_is, strips_is}
 use Rattle.numbers.specs.Numbers.{number_in}
 use Rattle.forms.specs.Values.{proper, number_before, number_value, unnamed, density_value, pair_value, minor_value}
@@ -98,14 +98,20 @@ unfolding pair_value
 pair_is b s h = rw (le-leb _ 65535 h.0, le-leb _ 65535 h.1)
 
 -- no 'v' in front
-pub minor_not : (s : List ℕ) → bytes_eq (take 1 s) (ascii "v") ≡ false → 0 ≡ minor_value s
+pub minor_not : (s : List ℕ) → begins_with (ascii "v") s ≡ false → 0 ≡ minor_value s
 unfolding minor_value
-minor_not s e = rw (sym (strips_is (ascii "v") s) ∙ e)
+minor_not s e = rw e
+
+-- a 'v' in front is a byte
+pub begins_some : (s : List ℕ) → begins_with (ascii "v") s ≡ true → 1 ≤ length s
+unfolding begins_with same
+begins_some [] e = absurd (true≢false (sym e))
+begins_some (x ∷ s) e = omega arith
 
 -- a 'v' in front: the two numbers behind it, where the minor one isn't 0
-pub minor_is : (s : List ℕ) → bytes_eq (take 1 s) (ascii "v") ≡ true → cond (leb 65536 (pair_value 46 (drop 1 s))) (pair_value 46 (drop 1 s)) 0 ≡ minor_value s
+pub minor_is : (s : List ℕ) → begins_with (ascii "v") s ≡ true → cond (leb 65536 (pair_value 46 (drop 1 s))) (pair_value 46 (drop 1 s)) 0 ≡ minor_value s
 unfolding minor_value
-minor_is s e = rw (sym (strips_is (ascii "v") s) ∙ e)
+minor_is s e = rw e
 
 pub minor_known : (s : List ℕ) → 0 < minor_value s → 0 < pair_value 46 (drop 1 s)
 unfolding minor_value

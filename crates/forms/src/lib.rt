@@ -5,7 +5,7 @@ ghost use Rattle.compare.specs.Compare.{up_to};
 ghost use Rattle.numbers.specs.Numbers.{number_in};
 ghost use Rattle.forms.specs.Values.{number_value, density_value, pair_value, sides_value, minor_value};
 
-use compare::up_to;
+use compare::{begins_with, up_to};
 use kinds::Density;
 use numbers::number_in;
 
@@ -52,6 +52,9 @@ pub fn sides_value(s: &[u8]) -> Option<u32>
 pub fn minor_value(s: &[u8]) -> Option<u32>
     ensures { SomeIff result (0 < minor_value s.now) (minor_value s.now) }
 {
-    let version = pair_value(s.strip_prefix(b"v")?, b'.')?;
+    if !begins_with(s, b"v") {
+        return None;
+    }
+    let version = pair_value(&s[1..], b'.')?;
     (65536 <= version).then_some(version)
 }

@@ -93,7 +93,8 @@ fn write_unpacked(a: u8, b: u8, base: u8, out: &mut [u8]) -> Result<Counted, Ref
     if out.len() < unpacked_length(a, b, base) {
         return Err(Refusal::ShortBuffer);
     }
-    Ok(put_unpacked(a, b, base, 0, out).into())
+    let counted = Counted::from(put_unpacked(a, b, base, 0, out));
+    Ok(counted)
 }
 
 // Puts a language of two bytes. Machinery, as all that is called `put`: it refuses nothing.

@@ -97,7 +97,8 @@ fn yes_field(bytes: &[u8], limit: usize, f: usize) -> bool
     }
 }
 
-// The record of the fields that end within the limit.
+// The record of the fields that end within the limit. Inline, as a call would copy the record that it gives.
+#[inline(always)]
 pub(crate) fn record_to(bytes: &[u8], limit: usize) -> ResTableConfig
     requires { limit ≤ length bytes.now }
     ensures { result ≡ record_by (λ g. leb (end_of g) limit) bytes.now }

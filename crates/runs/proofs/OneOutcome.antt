@@ -48,7 +48,7 @@ one_stepped r s e f =
 pub one_step : (a : ℕ) (bytes : List ℕ) (p : ℕ) (r s : Stepped) → step_outcome r ≡ step_of a bytes p → step_outcome s ≡ step_of a bytes p → r ≡ s
 one_step a bytes p r s e f = one_stepped r s e f
 
--- of `told`, of `Front::of`, of `front_at` and of `walk`: the answer is its definition's value at the input
+-- of `told`, of `front_of`, of `front_at` and of `walk`: the answer is its definition's value at the input
 pub one_told : (step : Step) (r t : Told) → r ≡ step_tells step → t ≡ step_tells step → r ≡ t
 one_told step r t p q = one_answer step_tells step r t p q
 

@@ -2,7 +2,7 @@
 // Runs of records, end to end: what stands at an offset, a step there, and the walk to where a run stops.
 ghost use Rattle.std.specs.Prelude.{◌≡◌};
 ghost use Rattle.runs.specs.declared.Stop.{Stop};
-ghost use Rattle.runs.specs.Fronts.{step_tells, stop_tells};
+ghost use Rattle.runs.specs.Fronts.{front_of, step_tells, stop_tells};
 ghost use Rattle.runs.specs.Runs.{front_at, run_of, step_of, step_outcome, step_stays};
 
 use answers::{Refusal, Told};
@@ -76,6 +76,13 @@ impl From<Refusal> for Stop {
     }
 }
 
+// What the answer of a call that takes bytes says of what stands at their front: it takes so many of them, or it stops a run.
+pub fn front_of(answer: Result<usize, Refusal>) -> Result<usize, Stop>
+    ensures { result ≡ front_of answer }
+{
+    Ok(answer?)
+}
+
 // What stands at an offset of bytes: a whole record, which takes so many of them, or the stop of a run.
 pub fn front_at(bytes: &[u8], offset: usize) -> Result<usize, Stop>
     ensures { result ≡ front_at bytes.now offset }
@@ -84,7 +91,7 @@ pub fn front_at(bytes: &[u8], offset: usize) -> Result<usize, Stop>
         return Err(Stop::Ended);
     }
     let from = lesser(offset, bytes.len());
-    Ok(take(&bytes[from..])?)
+    front_of(take(&bytes[from..]))
 }
 
 // What a step gives that finds nothing at an offset.

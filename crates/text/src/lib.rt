@@ -37,7 +37,8 @@ pub fn as_string(r: ResTableConfig, out: &mut [u8]) -> Result<Counted, Refusal>
     if !fits(r, out.len()) {
         return Err(Refusal::ShortBuffer);
     }
-    Ok(put_text(r, out).into())
+    let counted = Counted::from(put_text(r, out));
+    Ok(counted)
 }
 
 // Writes the plain text of the record at the front of bytes.
@@ -48,7 +49,9 @@ pub fn plain_text(bytes: &[u8], out: &mut [u8]) -> Result<Counted, Refusal>
     as_string(parsed.record, out)
 }
 
-// The record at the front of bytes as a reader of an age is shown it; one that is held back at it is refused.
+// The record at the front of bytes as a reader of an age is shown it; one that is held back at it is refused. Inline, for the
+// same reason as the reading of its fields.
+#[inline(always)]
 fn shown(bytes: &[u8], age: Age) -> Result<ResTableConfig, Refusal>
     ensures { result ≡ shown_of age.0 bytes.now }
 {

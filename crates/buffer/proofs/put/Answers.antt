@@ -1,10 +1,11 @@
 -- `put` meets its contract. Assumes nothing.
+use native.Mathlib.Numerals.{add-one}
 use native.Mathlib.Omega.{arith}
-use Rattle.buffer.proofs.Putting.{put_nil, put_past, put_part}
+use Rattle.buffer.proofs.Putting.{put_nil, put_turn}
 use Rattle.buffer.proofs.put.Goals as goal
 
-pub returns-then-out-at : goal.returns-then-out-at
-returns-then-out-at c = put_past _ c.if-out-at.true put_nil
+pub loop-b-init : goal.loop-b-init
+loop-b-init c = put_nil
 
-pub returns : goal.returns
-returns c = put_part _ c.if-out-at.false c.min-n.ensures c.copy_from_slice.ensures.after (omega arith)
+pub loop-b-preserved : goal.loop-b-preserved
+loop-b-preserved c = rw add-one (put_turn _ c.loop-b.b-index (omega arith) c.loop-b.invariant c.put_byte-o.ensures)

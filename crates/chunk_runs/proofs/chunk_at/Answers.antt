@@ -3,9 +3,7 @@ use mathlib.Core.Path.{sym, ap, ◌∙◌}
 use borrow.Author.Rules.{rules}
 use Rattle.chunk.specs.Chunk.{chunk_take}
 use Rattle.laws.proofs.Lists.{rest_from}
-use Rattle.std.specs.Prelude.{Ok, Err}
 use Rattle.runs.proofs.Along.{at_end}
-use Rattle.runs.proofs.Passed.{refused_on}
 use Rattle.chunk_runs.proofs.Chunks.{chunk_run, chunk_answered}
 use Rattle.chunk_runs.proofs.chunk_at.Goals as goal
 
@@ -13,12 +11,6 @@ pub returns-then-offset-bytes : goal.returns-then-offset-bytes
 returns-then-offset-bytes c = sym (at_end (chunk_run c.args.bytes.now) _ c.if-offset-bytes.true)
 
 pub returns : goal.returns
-returns c =
-    sym (chunk_answered c.args.bytes.now c.args.offset c.if-offset-bytes.false (Ok c.in_ok-take_chunk.field-0)
-    (c.in_ok-take_chunk.ensures ∙ ap chunk_take (rest_from c.args.bytes.now c.args.offset _ c.lesser-from.ensures)))
-
-pub returns-in_err-take_chunk : goal.returns-in_err-take_chunk
-returns-in_err-take_chunk c =
-    refused_on c.from_residual.ensures.1
-    ∙ sym (chunk_answered c.args.bytes.now c.args.offset c.if-offset-bytes.false (Err c.in_err-take_chunk.field-0.0)
-    (c.in_err-take_chunk.ensures ∙ ap chunk_take (rest_from c.args.bytes.now c.args.offset _ c.lesser-from.ensures)))
+returns c = c.front_of.ensures
+    ∙ sym (chunk_answered c.args.bytes.now c.args.offset c.if-offset-bytes.false c.take_chunk.result
+    (c.take_chunk.ensures ∙ ap chunk_take (rest_from c.args.bytes.now c.args.offset _ c.lesser-from.ensures)))

@@ -8,4 +8,4 @@ pub returns-then-not-fits : goal.returns-then-not-fits
 returns-then-not-fits c = copy_short _ _ _ (leb-false _ _ (sym c.fits.ensures ∙ c.if-not-fits.true))
 
 pub returns : goal.returns
-returns c = rw c.into.ensures (copy_written (leb-true _ _ (sym c.fits.ensures ∙ c.if-not-fits.false)) c.put_text.ensures)
+returns c = rw c.from-counted.ensures (copy_written (leb-true _ _ (sym c.fits.ensures ∙ c.if-not-fits.false)) c.put_text.ensures)
